@@ -1,0 +1,3 @@
+mod CellBytes
+mod Bytes8
+mod Fields

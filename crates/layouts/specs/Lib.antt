@@ -1,0 +1,3 @@
+pub mod CellBytes
+pub mod Byte8
+pub mod Sixbit

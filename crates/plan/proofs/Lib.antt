@@ -1,0 +1,6 @@
+mod Lines
+mod Taken
+mod Seen
+mod Distinct
+mod Sums
+mod ByBin

@@ -1,0 +1,12 @@
+pub mod Lists
+pub mod Tests
+pub mod Reach
+pub mod Compared
+pub mod Finite
+pub mod Runs
+pub mod Lies
+pub mod Room
+pub mod Coded
+pub mod Good
+pub mod Acts
+pub mod Unaltered

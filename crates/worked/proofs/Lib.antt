@@ -1,0 +1,2 @@
+mod Reached
+mod Worked
