@@ -2,6 +2,7 @@
 
 ghost use Rattle.rules.specs.Compared.{Compared, Determined, Runs, Unaltered};
 ghost use mathlib.Core.Path.{_≡_};
+ghost use Prim.Native.Nat.{_+_, _*_, _%_, _<_};
 ghost use mathlib.Core.Bool.{cond};
 ghost use Rattle.std.specs.declared.option.Option.the-variants.{Some, None};
 ghost use Rattle.rules.specs.Model.{string-cells-or-zero};
@@ -123,13 +124,21 @@ pub fn cells_of_string(l: u32, c: u32) -> u32
     4 + ((l - 1) / c + 1)
 }
 
+// The key with one code more.
+fn mixed(h: u32, code: u8) -> u32
+    requires { ⌜ h < 65521 ⌝ }
+    ensures { λ r. ⌜ r ≡ (31 * h + code) % 65521 ⌝ }
+{
+    (31 * h + code as u32) % 65521
+}
+
 // The key of some bytes.
 pub fn key_of(bytes: &[u8]) -> u32
     ensures { λ r. ⌜ r ≡ key (now (bytes .entry)) ⌝ }
 {
     let mut h = 0u32;
     for b in bytes {
-        h = (31 * h + *b as u32) % 65521;
+        h = mixed(h, *b);
     }
     h
 }

@@ -1,0 +1,10 @@
+pub mod Faults
+pub mod Titles
+pub mod Finds
+pub mod Growth
+pub mod Enters
+pub mod Blocks
+pub mod Values
+pub mod Texts
+pub mod Stored
+pub mod Opening

@@ -1,0 +1,9 @@
+pub mod Lists
+pub mod Nexts
+pub mod Taken
+pub mod Shorter
+pub mod Steps
+pub mod Inside
+pub mod Once
+pub mod Arguments
+pub mod Spelled

@@ -1,0 +1,13 @@
+mod Admission
+mod Steps
+mod Rooms
+mod Wants
+mod Growing
+mod Openings
+mod Raises
+mod Takings
+mod Named
+mod Holdings
+mod Agreements
+mod Divisions
+mod Lookings

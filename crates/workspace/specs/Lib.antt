@@ -1,0 +1,6 @@
+pub mod Reports
+pub mod Shown
+pub mod Rooms
+pub mod Opened
+pub mod Taken
+pub mod Numbers
