@@ -20,10 +20,6 @@ pub record Back (m : Memory) (p k : ℕ) : Type 0 where
 abbrev pub count : Descriptor → ℕ
 count d = cond (eqb (bitAnd (d .flags) 4) 0) (d .kind) string-fields
 
--- The cells after the title d that relocation writes.
-abbrev pub movable : Descriptor → ℕ
-movable d = cond (eqb (bitAnd (d .flags) 4) 0) (d .kind) string-fields
-
 -- The cells of the block with the title d, with c characters to a cell.
 abbrev pub cells-of : ℕ → Descriptor → ℕ
 cells-of c d = cond (eqb (bitAnd (d .flags) 4) 0) (d .kind + 1) (string-cells c (d .kind))

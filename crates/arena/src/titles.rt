@@ -7,7 +7,7 @@ ghost use lib.IntN.{pos};
 ghost use Rattle.std.specs.Vec.{made};
 ghost use Rattle.std.specs.declared.result.Result.the-variants.{Ok};
 ghost use Rattle.rules.specs.Arena.{desc, null-desc};
-ghost use Rattle.arena.specs.Titles.{Back, count, with-mark, cells-of, retitled, movable};
+ghost use Rattle.arena.specs.Titles.{Back, count, with-mark, cells-of, retitled};
 use crate::MARK;
 use crate::MOST_CELLS;
 use crate::POINTER;
@@ -90,17 +90,6 @@ pub fn new_title(d: Descriptor, to: u32) -> Result<Descriptor, HeapFault>
 // The fields of the block with this title.
 pub fn field_count(d: Descriptor) -> u32
     ensures { λ r. ⌜ r ≡ count d ⌝ }
-{
-    if d.flags & STRING == 0 {
-        d.kind
-    } else {
-        STRING_FIELDS
-    }
-}
-
-// The cells after a title that relocation writes.
-pub fn movable_count(d: Descriptor) -> u32
-    ensures { λ r. ⌜ r ≡ movable d ⌝ }
 {
     if d.flags & STRING == 0 {
         d.kind

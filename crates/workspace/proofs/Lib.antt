@@ -7,6 +7,10 @@ mod Openings
 mod Raises
 mod Takings
 mod Named
+mod Fulls
+mod Makes
+mod Collects
+mod Regains
 mod Holdings
 mod Agreements
 mod Divisions

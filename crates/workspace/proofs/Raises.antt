@@ -37,3 +37,13 @@ raised-not r w k x h e p = ok-not-err {a = x} (sym e) (ap (λ q. raised q w k) p
 pub raised-kept : {T : Type 0} (P : Type 0) (r : Result T HeapFault) (w : Word) (k : ℕ) (x : Raised) → Err x ≡ raised r w k → refused r (λ _. P) → P
 raised-kept P (Ok y) w k x e h = ok-not-err {a = y} refl (sym e)
 raised-kept P (Err f) w k x e h = h
+
+-- A fault that was raised is the heap's, and an answer too.
+pub raised-since : {T : Type 0} (r : Result T HeapFault) (w : Word) (k : ℕ) (x : Raised) → Err x ≡ raised r w k →
+    (h : HeapFault) × (r ≡ Err h) × (x ≡ record { fault = h; call = w; register = k })
+raised-since (Ok y) w k x e = ok-not-err {a = y} refl (sym e)
+raised-since {T} (Err h) w k x e = (h, refl, raised-err {T = T} (Err h) w k x h e refl)
+
+pub raised-gave : {T : Type 0} (r : Result T HeapFault) (w : Word) (k : ℕ) (x : T) → Ok x ≡ raised r w k → r ≡ Ok x
+raised-gave (Ok y) w k x e = ap Ok (sym (ok-same {E = Raised} x y e))
+raised-gave (Err h) w k x e = ok-not-err {a = x} (sym e) refl

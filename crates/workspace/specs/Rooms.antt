@@ -1,7 +1,7 @@
 -- Room for some more cells in a workspace.
 use mathlib.Core.Path.{_≡_}
 use mathlib.Core.List.{List}
-use Prim.Native.Nat.{ℕ, _+_, _≤_, _<_}
+use Prim.Native.Nat.{ℕ, _+_, _-_, _≤_, _<_}
 use Rattle.std.specs.declared.result.Result.{Result}
 use Rattle.std.specs.declared.result.Result.the-variants.{Ok, Err}
 use Rattle.rules.specs.Lists.{total}
@@ -59,6 +59,19 @@ pub record Grew (m : Model) (a : Arena) (v : View) (need : ℕ) (k : Model) (wit
 abbrev pub Grows : Model → Arena → View → ℕ → Model → (Arena → Arena) → View → Result (Unit {0}) HeapFault → Type 0
 Grows m a v need k with-it w (Ok u) = Grew m a v need k with-it w
 Grows m a v need k with-it w (Err x) = RoomOf m a v need w (Err x)
+
+-- The arena was regenerated: w shows the same model in it, and so many cells are free that the need is met.
+pub record Regained (m : Model) (a : Arena) (v : View) (need : ℕ) (w : View) (free : ℕ) : Type 0 where
+  pub arena : Arena
+  pub renewed : Renewed m a arena
+  pub shown : Shown m arena w
+  pub fits : Fits m a v need
+  pub counted : (things : List Thing) → Exactly m things → free ≡ v .memory .figures .cells - (a .bins + total (size (v .memory .figures .places) m) things)
+
+-- It was, or there is no room.
+abbrev pub Regains : Model → Arena → View → ℕ → View → Result ℕ HeapFault → Type 0
+Regains m a v need w (Ok free) = Regained m a v need w free
+Regains m a v need w (Err x) = RoomOf m a v need w (Err x)
 
 -- An open workspace whose first free cell is `next`.
 abbrev pub ended : State → ℕ → State

@@ -16,6 +16,7 @@ use Rattle.rules.specs.Opening.{closed}
 use Rattle.rules.specs.Arena.{Arena, Codes, Shows, desc}
 use Rattle.arena.specs.Growth.{arena-with-block, arena-with-text}
 use Rattle.std.specs.shelf.Lists.{All}
+use Rattle.rules.specs.declared.Layer.{Layer}
 use Rattle.rules.specs.declared.Word.{Word}
 use Rattle.workspace.specs.declared.faults.Cause.the-variants.{Closed, NoRegister}
 use Rattle.workspace.specs.declared.faults.WorkspaceFault.{WorkspaceFault}
@@ -135,10 +136,12 @@ Admits s w rs (Err f) =
     ((s ≡ Shut) × (f ≡ record { cause = Closed; call = w; register = getD rs 0 0 }))
     ⊎ (((b : ℕ) × (n : ℕ) × (s ≡ Opened b n)) × ((i : ℕ) × (i < length rs) × ((j : ℕ) → j < i → getD rs j 0 ≤ 31) × (31 < getD rs i 0) × (f ≡ record { cause = NoRegister; call = w; register = getD rs i 0 })))
 
--- Every refusal but "no room" leaves the workspace and the work list as they were.
-abbrev pub Untouched : {T : Type 0} → Result T WorkspaceFault → Type 0 → Type 0 → Type 0
-Untouched (Ok x) same list = Unit {0}
-Untouched (Err e) same list = report e .number ≢ 16 → same × list
+-- A refusal of the workspace's own layer leaves the workspace and the work list as they were; where it shows a model, so does
+-- every refusal but "no room".
+abbrev pub Untouched : {T : Type 0} → View → Result T WorkspaceFault → Type 0 → Type 0 → Type 0
+Untouched v (Ok x) same list = Unit {0}
+Untouched v (Err e) same list =
+    ((report e .layer ≡ Layer.Workspace) ⊎ (((m : Model) × (a : Arena) × Shown m a v) × (report e .number ≢ 16))) → same × list
 
 -- What read answers: a count, and the characters at the start of its buffer.
 abbrev pub written : Result ℕ WorkspaceFault → List ℕ → Answer

@@ -6,19 +6,23 @@ ghost use lib.ListN.{length};
 ghost use Rattle.std.specs.Results.{Cases};
 ghost use Rattle.rules.specs.Model.{Model};
 ghost use Rattle.rules.specs.Arena.{Arena};
-ghost use Rattle.rules.specs.Calls.{put-block};
+ghost use Rattle.rules.specs.Calls.{put-block, make as rule-make, collect as rule-collect};
 ghost use Rattle.arena.specs.Growth.{arena-with-block};
 ghost use Rattle.workspace.specs.declared.faults.Cause.the-variants.{ShortWork};
-ghost use Rattle.workspace.specs.Rooms.{RoomOf, Grows, ended};
-ghost use Rattle.workspace.specs.Shown.{view, Shown};
+ghost use Rattle.workspace.specs.Rooms.{RoomOf, Grows, Regains, ended};
+ghost use Rattle.workspace.specs.Shown.{view, Shown, ExactWith, Untouched, answered, nothing, count};
 use crate::faults::Cause;
 use crate::faults::WorkspaceFault;
+use crate::faults::WorkspaceFaultFromHeap;
+use crate::faults::in_call;
 use crate::space::State;
 use crate::space::Workspace;
+use arena::blocks::fit as fit_block;
 use arena::blocks::make_block;
 use arena::faults::HeapFault;
 use arena::titles::pointer_at;
 use cells::Store;
+use heap::regeneration::regenerate;
 use heap::room::make_room;
 use rules::Word;
 
@@ -92,5 +96,51 @@ impl<S: Store> Workspace<S> {
         self.registers[r as usize] = block;
         self.end_at(end);
         Ok(())
+    }
+
+    // Register r holds a new block of n null fields and type t.
+    pub(crate) fn make(
+        &mut self,
+        r: u32,
+        n: u32,
+        t: u32,
+        work: &mut [u32],
+    ) -> Result<(), WorkspaceFault>
+        ensures exact { λ a. ⌜ ExactWith (view memory (now (self .entry))) (length (now (work .entry))) (rule-make r n t) (answered nothing a) (view memory (now (self .exit))) ⌝ }
+        ensures kept { λ a. ⌜ Untouched (view memory (now (self .entry))) a (now (self .exit) ≡ now (self .entry)) (now (work .exit) ≡ now (work .entry)) ⌝ }
+    {
+        self.admit(Word::Make, &[r])?;
+        in_call(fit_block(n, t), Word::Make, r)?;
+        self.take_list(Word::Make, r, work)?;
+        in_call(self.add_block(r, n, t, work), Word::Make, r)?;
+        Ok(())
+    }
+
+    // Regenerates, and gives the count of the free cells if they are at least `need`.
+    pub(crate) fn regain(&mut self, need: u32, work: &mut [u32]) -> Result<u32, HeapFault>
+        ensures { λ r. ⌜ ((m : Model) (a : Arena) → Shown m a (view memory (now (self .entry))) → memory (now (self .entry) .cells) .figures .cells ≤ length (now (work .entry)) →
+            Regains m a (view memory (now (self .entry))) need (view memory (now (self .exit))) r) ⌝ }
+    {
+        let State::Opened(bins, next) = self.state else {
+            return Err(HeapFault::Unlawful(1, 0));
+        };
+        let first = regenerate(&mut self.cells, &mut self.registers, bins, next, work)?;
+        self.state = State::Opened(bins, first);
+        let free = self.cells.cells().saturating_sub(first);
+        if free < need {
+            return Err(HeapFault::NoRoom);
+        }
+        Ok(free)
+    }
+
+    // Regenerates, and gives the count of the free cells if they are at least n.
+    pub(crate) fn collect(&mut self, n: u32, work: &mut [u32]) -> Result<u32, WorkspaceFault>
+        ensures exact { λ a. ⌜ ExactWith (view memory (now (self .entry))) (length (now (work .entry))) (rule-collect n) (answered count a) (view memory (now (self .exit))) ⌝ }
+        ensures kept { λ a. ⌜ Untouched (view memory (now (self .entry))) a (now (self .exit) ≡ now (self .entry)) (now (work .exit) ≡ now (work .entry)) ⌝ }
+    {
+        self.admit(Word::Collect, &[])?;
+        self.take_list(Word::Collect, 0, work)?;
+        let free = in_call(self.regain(n, work), Word::Collect, 0)?;
+        Ok(free)
     }
 }
