@@ -1,14 +1,14 @@
 -- The call collect, by what its checks answer.
-use mathlib.Core.Path.{_≡_, refl, sym, ap, _∙_}
+use mathlib.Core.Path.{_≡_, sym, ap, _∙_}
 use mathlib.Core.List.{List, [], _∷_}
 use Prim.Native.Nat.{ℕ, _+_, _-_, _≤_, _<_}
 use native.Mathlib.Omega.{arith}
-use lib.IntN.{ℤ, pos}
+use lib.IntN.{pos}
 use Rattle.std.specs.declared.result.Result.{Result}
-use Rattle.std.specs.declared.result.Result.the-variants.{Ok, Err}
+use Rattle.std.specs.declared.result.Result.the-variants.{Err}
 use Rattle.rules.specs.declared.Word.{Word}
 use Rattle.rules.specs.Lists.{total}
-use Rattle.rules.specs.Model.{Thing, Model, size, Exactly}
+use Rattle.rules.specs.Model.{Thing, Model, size}
 use Rattle.rules.specs.Arena.{Arena}
 use Rattle.rules.specs.Calls.{Call, ok, Act, want, settle}
 use Rattle.rules.proofs.Room.{settle-fits, settle-full, work-long}
@@ -56,5 +56,5 @@ module _ (v : View) (work n : ℕ) (opened : (b : ℕ) × (k : ℕ) × (v .state
           (λ things y. ap (settle (limits v a) m (used m things) (Call.collect n)) (work-long (limits v a) work (Call.collect n) (wanted m a (used m things)) long)
               ∙ settle-fits (limits v a) m (used m things) (Call.collect n) n (pos (v .memory .figures .cells - (a .bins + used m things)) ∷ []) m (g .fits things y)
               ∙ ap (λ (k : ℕ). (ok (count k) [], m)) (sym (g .counted things y))),
-          (g .arena, after.collected (g .renewed), g .shown),
+          (g .arena, after.collected (g .renewed), g .shown, g .figures),
         ))

@@ -1,6 +1,6 @@
 -- A call for which there is no room, and what a refused call leaves.
 use mathlib.Core.Path.{_≡_, refl, sym, subst}
-use mathlib.Core.Logic.{_≢_, _⊎_, inl, inr}
+use mathlib.Core.Logic.{_≢_, inl, inr}
 use mathlib.Core.List.{List}
 use Prim.Native.Nat.{ℕ}
 use native.Mathlib.Omega.{arith}
@@ -8,20 +8,18 @@ use lib.IntN.{ℤ}
 use Rattle.std.specs.declared.result.Result.{Result}
 use Rattle.std.specs.declared.result.Result.the-variants.{Ok, Err}
 use Rattle.rules.specs.declared.Layer.{Layer}
-use Rattle.rules.specs.declared.Word.{Word}
 use Rattle.rules.specs.Model.{Thing, Model, Exactly}
 use Rattle.rules.specs.Arena.{Arena}
 use Rattle.rules.specs.Calls.{Call, word, first, no, refused, outcome-with}
 use Rattle.arena.specs.Faults.{heap-number, heap-layer}
 use Rattle.arena.specs.declared.faults.HeapFault.{HeapFault}
 use Rattle.arena.specs.declared.faults.HeapFault.the-variants.{Cells, NoField, BadMake, LongText, NoRoom, Unlawful}
-use Rattle.workspace.specs.declared.faults.Raised.{Raised}
 use Rattle.workspace.specs.declared.faults.WorkspaceFault.{WorkspaceFault}
-use Rattle.workspace.specs.declared.space.State.the-variants.{Shut, Opened}
+use Rattle.workspace.specs.declared.space.State.the-variants.{Opened}
 use Rattle.workspace.specs.Reports.{report, told}
 use Rattle.workspace.specs.Shown.{View, Shown, limits, StepWith, Given, ExactWith, answered, Untouched}
 use Rattle.workspace.specs.Shown as after
-use Rattle.workspace.specs.Rooms.{Exceeds, LacksRoom, RoomOf}
+use Rattle.workspace.specs.Rooms.{Exceeds, RoomOf}
 use Rattle.workspace.proofs.Steps.{not-shut, things-of}
 
 -- The heap's fault as it is told for a call.
@@ -49,6 +47,7 @@ module _ (v w : View) (work : ℕ) (c : Call) (need : ℕ) where
         arena = h .arena;
         after = after.full refl (h .renewed);
         shown = h .shown;
+        figures = h .figures;
       }
 
   -- The heap refuses for want of room, and never for another cause.

@@ -42,6 +42,7 @@ grew m a v w need next x m′ with-it o′ r p d h g same bins there fit code en
       shown = subst (λ (n : ℕ). Shown (put m′ r p) (with-it (h .arena)) (record { memory = o′; registers = set (w .registers) r d; state = ended (w .state) n })) (sym end-is)
           (put-shown m′ (with-it (h .arena)) (record { memory = o′; registers = w .registers; state = ended (w .state) (with-it (h .arena) .«next») }) r p d
           (grown-shown m (h .arena) w x m′ (with-it (h .arena)) o′ (h .shown) g same bins) there fit code);
+      figures = g .figures ∙ h .figures;
       fits = h .fits;
     }
 

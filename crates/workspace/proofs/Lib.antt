@@ -11,6 +11,8 @@ mod Fulls
 mod Makes
 mod Collects
 mod Regains
+mod Entering
+mod Texts
 mod Holdings
 mod Agreements
 mod Divisions

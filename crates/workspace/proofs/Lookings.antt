@@ -48,7 +48,7 @@ by-nothing v c x w is none = record { shut = λ e. not-shut (v .state) (is .0) (
 pub kind-gives : (v : View) (r t : ℕ) (z : ℤ) → Open v × All (λ k. k ≤ 31) (r ∷ []) → ((m : Model) (a : Arena) → Shown m a v → kind-of m (register m r) ≡ pos t ∷ z ∷ []) →
     Exact v (Call.kind r) (ok (pair (t, z)) []) v
 kind-gives v r t z admitted is =
-    by-giving v v (Call.kind r) (r ∷ []) (pair (t, z)) [] admitted tt
+    by-giving v v (Call.kind r) (r ∷ []) (pair (t, z)) [] admitted tt refl
     (λ m a s. (m, (λ l u h. ap (λ (zs : List ℤ). registers-then (r ∷ []) (give zs [] m)) (is m a s)), s))
 
 pub kind-is : (m : Model) (r : ℕ) (x : Value) (t : ℕ) (y z : ℤ) → register m r ≡ x → kind-of m x ≡ pos t ∷ y ∷ [] → z ≡ y → kind-of m (register m r) ≡ pos t ∷ z ∷ []
@@ -154,7 +154,7 @@ module _ (v : View) (r title : ℕ) (before after : List ℕ) (res : Result (Opt
   module _ (x : Option ℕ) (n : ℕ) (some : x ≡ Some n) (e : Ok x ≡ raised res w k) where
     pub exact-some : Exact v (Call.read r (length before)) (ok (pos n ∷ []) (take n after)) v
     exact-some =
-        by-giving v v (Call.read r (length before)) (r ∷ []) (pos n ∷ []) (take n after) admitted tt
+        by-giving v v (Call.read r (length before)) (r ∷ []) (pos n ∷ []) (take n after) admitted tt refl
         (λ m a s. let q = out-of s in let f = read-some (q .0) before after res w k (q .2) x n some e in
         (m, (λ l u h. ap (registers-then (r ∷ [])) (read-well m r (length before) (q .0) n (take n after) (q .1) (f .0) (f .1 .0) (front-is (q .0) before after n (f .1 .0) (f .1 .1)))), s))
 

@@ -1,7 +1,7 @@
 -- The call make, by what its checks answer.
-use mathlib.Core.Path.{_≡_, refl, sym, ap, _∙_}
-use mathlib.Core.Logic.{_⊎_, inl, inr}
-use mathlib.Core.Bool.{Bool, true, false, _&&_, cond}
+use mathlib.Core.Path.{_≡_, refl, ap, _∙_}
+use mathlib.Core.Logic.{inl, inr}
+use mathlib.Core.Bool.{Bool, true, _&&_}
 use mathlib.Core.List.{[], _∷_}
 use Prim.Native.Nat.{ℕ, _+_, _≤_, _<_}
 use native.Mathlib.Omega.{arith}
@@ -93,5 +93,5 @@ module _ (v : View) (work r n t : ℕ) (admitted : ((b : ℕ) × (k : ℕ) × (v
           (λ m a s. let g = grows m a s in (
             put-block m r n t,
             wants-fit v work (Call.make r n t) (r ∷ []) admitted m a s (wanted m) (λ used reached _. comes m a used reached) (n + 1) [] (put-block m r n t) refl long (g .fits),
-            (arena-with-block m (g .arena) n, after.made (g .roomed), g .shown),
+            (arena-with-block m (g .arena) n, after.made (g .roomed), g .shown, g .figures),
           ))

@@ -30,7 +30,7 @@ use Rattle.workspace.specs.Reports.{report, raised, told}
 use Rattle.workspace.specs.Shown.{View, holding, Shown, Exact, answered, nothing}
 use Rattle.workspace.specs.Taken.{wrong-kind, name-taken, thing-taken}
 use Rattle.workspace.proofs.Raises.{raised-ok, raised-never, raised-call, raised-err, raised-not}
-use Rattle.workspace.proofs.Steps.{by-giving, by-refusing, proper-in, put-shown}
+use Rattle.workspace.proofs.Steps.{by-giving, by-storing, by-refusing, proper-in, put-shown}
 use Rattle.workspace.proofs.Takings.{name-fault, name-is, name-not, thing-fault, thing-is, thing-not}
 
 -- The workspace is open, and the registers are there.
@@ -60,7 +60,7 @@ module _ (v : View) (r s : ℕ) (admitted : Admitted v (r ∷ s ∷ [])) where
     pub fetch-gives : (d : Descriptor) → Ok d ≡ raised f Word.Fetch s →
         Exact v (fetch r s) (ok [] []) (record { memory = v .memory; registers = set (v .registers) r d; state = v .state })
     fetch-gives d raise =
-        by-giving v _ (fetch r s) (r ∷ s ∷ []) [] [] admitted tt
+        by-giving v _ (fetch r s) (r ∷ s ∷ []) [] [] admitted tt refl
         (λ m b w. let q = name-is w Word.Fetch s (admitted .1 .1 .0) cell fit in
         let x = q .0 in let k = q .1 .0 in let t = fetches m b x k (q .1 .2) in (
           put m r (m .field x k),
@@ -107,12 +107,13 @@ module _ (v : View) (r s : ℕ) (admitted : Admitted v (r ∷ s ∷ [])) where
 
     pub store-gives : Exact v (store r s) (ok [] []) (record { memory = o; registers = v .registers; state = v .state })
     store-gives =
-        by-giving v _ (store r s) (r ∷ s ∷ []) [] [] admitted tt
+        by-storing v _ (store r s) (r ∷ s ∷ []) [] [] admitted tt
         (λ m b w. let q = name-is w Word.Store r (admitted .1 .0) cell fit in
         let x = q .0 in let k = q .1 .0 in (
           put-field m x k (register m s),
           (λ l used reached. ap (λ (y : Value). registers-then (r ∷ s ∷ []) (field-then r y (λ x k. give [] [] (put-field m x k (register m s))))) (q .1 .1)),
           store-shown m b v o x k (register m s) w (put-in m b w x k (q .1 .2) .1),
+          put-in m b w x k (q .1 .2) .1 .figures,
         ))
 
 -- What `name_of` promises of a title and a field.
@@ -176,7 +177,7 @@ module _ (v : View) (r s k : ℕ) (admitted : Admitted v (r ∷ s ∷ [])) where
     pub name-gives : (d : Descriptor) → Ok d ≡ raised f Word.Name s →
         Exact v (Call.name r s k) (ok [] []) (record { memory = v .memory; registers = set (v .registers) r d; state = v .state })
     name-gives d raise =
-        by-giving v _ (Call.name r s k) (r ∷ s ∷ []) [] [] admitted tt
+        by-giving v _ (Call.name r s k) (r ∷ s ∷ []) [] [] admitted tt refl
         (λ m b w. let q = thing-is w Word.Name s (admitted .1 .1 .0) title fit in
         let t = gives m b w (q .0) (q .1 .1) d raise (field-cases k (fields m (q .0))) in
         (put m r (Value.name (q .0) k), (λ l used reached. ap (registers-then (r ∷ s ∷ [])) (q .1 .0 (naming m) ∙ t .0)), t .1))

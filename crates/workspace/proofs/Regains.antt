@@ -1,5 +1,5 @@
 -- The count of the free cells after a regeneration.
-use mathlib.Core.Path.{_≡_, refl, sym, ap, _∙_}
+use mathlib.Core.Path.{_≡_, ap, _∙_}
 use mathlib.Core.List.{List}
 use Prim.Native.Nat.{ℕ, _+_, _-_, _≤_, _<_}
 use native.Mathlib.Omega.{arith}
@@ -11,7 +11,7 @@ use Rattle.rules.specs.Arena.{Arena}
 use Rattle.rules.proofs.Reach.{exactly-total}
 use Rattle.heap.specs.Regeneration as heap
 use Rattle.workspace.specs.declared.space.State.the-variants.{Opened}
-use Rattle.workspace.specs.Shown.{View, Shown}
+use Rattle.workspace.specs.Shown.{View}
 use Rattle.workspace.specs.Rooms.{LacksRoom, Regained}
 use Rattle.workspace.proofs.Rooms.{up, renewed}
 
@@ -50,6 +50,7 @@ module _ (m : Model) (a : Arena) (v : View) (bins first need : ℕ) (rs : List D
           arena = g .after;
           renewed = renewed m a (v .memory) bins first rs ws f g;
           shown = up m (g .after) bins first rs ws f (g .shown);
+          figures = g .figures;
           fits = λ things x. omega (arith, first-is things x, free-is, cells-is, same-cells, enough, within);
           counted = λ things x. free-is ∙ ap (λ (k : ℕ). k - first) (cells-is ∙ same-cells) ∙ ap (λ (k : ℕ). v .memory .figures .cells - k) (first-is things x);
         }

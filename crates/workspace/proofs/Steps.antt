@@ -76,12 +76,13 @@ by-refusal {T} v c f r e is free shut opened =
             arena = a;
             after = stays free;
             shown = s;
+            figures = refl;
           };
     })
 
 -- An answer, with the model after it shown in the same arena.
 pub by-answer : (v w : View) (c : Call) (x : Answer) (b n : ℕ) → v .state ≡ Opened b n → Needless c →
-    ((m : Model) (a : Arena) → Shown m a v → (k : Model) × ((things : List Thing) → Exactly m things → outcome (limits v a) m things c ≡ (x, k)) × Shown k a w) →
+    ((m : Model) (a : Arena) → Shown m a v → (k : Model) × ((things : List Thing) → Exactly m things → outcome (limits v a) m things c ≡ (x, k)) × Shown k a w × (w .memory .figures ≡ v .memory .figures)) →
     Exact v c x w
 by-answer v w c x b n is free opened =
     record {
@@ -94,6 +95,7 @@ by-answer v w c x b n is free opened =
             arena = a;
             after = stays free;
             shown = q .2;
+            figures = q .3;
           };
     }
 
@@ -138,18 +140,27 @@ at-door v c rs f r e (inr h) is free first-is inner =
     ∙ ap (λ (y : WorkspaceFault). (no (report y), m)) (sym (q .4)))
 
 -- Past the door: the call answers, and the model after it is shown in the same arena.
-pub by-giving : (v w : View) (c : Call) (rs : List ℕ) (zs : List ℤ) (t : Text) → ((b : ℕ) × (n : ℕ) × (v .state ≡ Opened b n)) × All (λ r. r ≤ 31) rs → Needless c →
+pub by-storing : (v w : View) (c : Call) (rs : List ℕ) (zs : List ℤ) (t : Text) → ((b : ℕ) × (n : ℕ) × (v .state ≡ Opened b n)) × All (λ r. r ≤ 31) rs → Needless c →
     ((m : Model) (a : Arena) → Shown m a v →
-    (k : Model) × ((l : Limits) (used : ℕ) (reached : Thing → Bool) → act l m used reached c ≡ registers-then rs (give zs t k)) × Shown k a w) →
+    (k : Model) × ((l : Limits) (used : ℕ) (reached : Thing → Bool) → act l m used reached c ≡ registers-then rs (give zs t k)) × Shown k a w × (w .memory .figures ≡ v .memory .figures)) →
     Exact v c (ok zs t) w
-by-giving v w c rs zs t admitted free gives =
+by-storing v w c rs zs t admitted free gives =
     by-answer v w c (ok zs t) (admitted .0 .0) (admitted .0 .1) (admitted .0 .2) free
     (λ m a s. let q = gives m a s in (
       q .0,
       (λ things x. let used = total (size (v .memory .figures .places) m) things in
           ap (settle (limits v a) m used c) (q .1 (limits v a) used (has things) ∙ registers-fine rs (give zs t (q .0)) (admitted .1))),
       q .2,
+      q .3,
     ))
+
+-- The same for a call that writes no cell.
+pub by-giving : (v w : View) (c : Call) (rs : List ℕ) (zs : List ℤ) (t : Text) → ((b : ℕ) × (n : ℕ) × (v .state ≡ Opened b n)) × All (λ r. r ≤ 31) rs → Needless c →
+    w .memory .figures ≡ v .memory .figures →
+    ((m : Model) (a : Arena) → Shown m a v →
+    (k : Model) × ((l : Limits) (used : ℕ) (reached : Thing → Bool) → act l m used reached c ≡ registers-then rs (give zs t k)) × Shown k a w) →
+    Exact v c (ok zs t) w
+by-giving v w c rs zs t admitted free same gives = by-storing v w c rs zs t admitted free (λ m a s. let q = gives m a s in (q .0, q .1, q .2, same))
 
 -- Past the door: the call refuses, and nothing has changed.
 pub by-refusing : {T : Type 0} (v : View) (c : Call) (rs : List ℕ) (f : T → List ℤ) (r : Result T WorkspaceFault) (e : WorkspaceFault) →

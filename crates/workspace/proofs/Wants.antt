@@ -59,6 +59,7 @@ by-refusal-with {T} v work c f r e is other shut opened =
             arena = a;
             after = after.refused other;
             shown = s;
+            figures = refl;
           };
     })
 
@@ -142,7 +143,7 @@ module _ (v : View) (work : ℕ) (c : Call) (rs : List ℕ) where
 -- An answer, with the model after it shown.
 pub by-answer-with : (v w : View) (work : ℕ) (c : Call) (x : Answer) (b n : ℕ) → v .state ≡ Opened b n →
     ((m : Model) (a : Arena) → Shown m a v → (k : Model) × ((things : List Thing) → Exactly m things → outcome-with (limits v a) m things work c ≡ (x, k)) ×
-    ((d : Arena) × After (v .memory .figures) m a c x d × Shown k d w)) →
+    ((d : Arena) × After (v .memory .figures) m a c x d × Shown k d w × (w .memory .figures ≡ v .memory .figures))) →
     ExactWith v work c x w
 by-answer-with v w work c x b n is opened =
     record {
@@ -155,5 +156,6 @@ by-answer-with v w work c x b n is opened =
             arena = q .2 .0;
             after = q .2 .1;
             shown = q .2 .2;
+            figures = q .2 .3;
           };
     }

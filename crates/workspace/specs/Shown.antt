@@ -104,6 +104,7 @@ pub record Given (steps : Outcome → Type 0) (m : Model) (a : Arena) (v : View)
   pub arena : Arena
   pub after : After (v .memory .figures) m a c x arena
   pub shown : Shown (outcome .1) arena w
+  pub figures : w .memory .figures ≡ v .memory .figures
 
 -- What a call promises: refusal 5 where the workspace is closed, and else whatever the rules say of the model that it shows.
 pub record Exact (v : View) (c : Call) (x : Answer) (w : View) : Type 0 where

@@ -1,30 +1,37 @@
 // The calls that may need cells: make, text and collect.
 ghost use mathlib.Core.Path.{_≡_};
-ghost use mathlib.Core.Logic.{_⊎_};
 ghost use Prim.Native.Nat.{_+_, _≤_, _<_};
 ghost use lib.ListN.{length};
 ghost use Rattle.std.specs.Results.{Cases};
-ghost use Rattle.rules.specs.Model.{Model};
+ghost use Rattle.rules.specs.Lists.{In};
+ghost use Rattle.rules.specs.Model.{Model, Value, string, string-cells};
 ghost use Rattle.rules.specs.Arena.{Arena};
-ghost use Rattle.rules.specs.Calls.{put-block, make as rule-make, collect as rule-collect};
-ghost use Rattle.arena.specs.Growth.{arena-with-block};
+ghost use Rattle.rules.specs.Calls.{put-block, make as rule-make, collect as rule-collect, put, text as rule-text};
+ghost use Rattle.arena.specs.Enters.{Takes};
+ghost use Rattle.arena.specs.Growth.{arena-with-block, arena-with-text};
 ghost use Rattle.workspace.specs.declared.faults.Cause.the-variants.{ShortWork};
-ghost use Rattle.workspace.specs.Rooms.{RoomOf, Grows, Regains, ended};
+ghost use Rattle.workspace.specs.Rooms.{RoomOf, Grows, Enters, Regains, ended};
 ghost use Rattle.workspace.specs.Shown.{view, Shown, ExactWith, Untouched, answered, nothing, count};
+use crate::calls::plain;
 use crate::faults::Cause;
 use crate::faults::WorkspaceFault;
 use crate::faults::WorkspaceFaultFromHeap;
 use crate::faults::in_call;
 use crate::space::State;
 use crate::space::Workspace;
+use arena::LONGEST_TEXT;
 use arena::blocks::fit as fit_block;
 use arena::blocks::make_block;
+use arena::entering::enter_text;
 use arena::faults::HeapFault;
+use arena::strings::find;
+use arena::texts::fit as fit_text;
 use arena::titles::pointer_at;
 use cells::Store;
 use heap::regeneration::regenerate;
 use heap::room::make_room;
 use rules::Word;
+use rules::cells_of_string;
 
 impl<S: Store> Workspace<S> {
     // Refusal 15: the work list is as long as the cells.
@@ -142,5 +149,79 @@ impl<S: Store> Workspace<S> {
         self.take_list(Word::Collect, 0, work)?;
         let free = in_call(self.regain(n, work), Word::Collect, 0)?;
         Ok(free)
+    }
+
+    // Adds the string of a text that is not there, and points register r at it.
+    pub(crate) fn add_text(
+        &mut self,
+        r: u32,
+        bins: u32,
+        text: &[u8],
+        work: &mut [u32],
+    ) -> Result<(), HeapFault>
+        requires { ⌜ r < 32 ⌝ }
+        ensures { λ x. ⌜ ((m : Model) (a : Arena) → Shown m a (view memory (now (self .entry))) → memory (now (self .entry) .cells) .figures .cells ≤ length (now (work .entry)) →
+            bins ≡ a .bins → 1 ≤ length (now (text .entry)) → length (now (text .entry)) ≤ 1024 → Takes (memory (now (self .entry) .cells)) (now (text .entry)) →
+            (In (string (now (text .entry))) (a .order) → ⊥) →
+            Grows m a (view memory (now (self .entry))) (string-cells (memory (now (self .entry) .cells) .figures .places) (length (now (text .entry))))
+            (put m r (Value.text (now (text .entry)))) (λ b. arena-with-text (memory (now (self .entry) .cells) .figures .places) b (now (text .entry))) (view memory (now (self .exit))) x) ⌝ }
+    {
+        if text.len() > LONGEST_TEXT {
+            return Err(HeapFault::LongText);
+        }
+        let need = cells_of_string(text.len() as u32, self.cells.places());
+        let next = self.room(need, work)?;
+        let end = enter_text(&mut self.cells, bins, next, text)?;
+        let string = pointer_at(next, 1)?;
+        self.registers[r as usize] = string;
+        self.end_at(end);
+        Ok(())
+    }
+
+    // Points register r at the string of a text, which is there or is added.
+    pub(crate) fn put_text(
+        &mut self,
+        r: u32,
+        text: &[u8],
+        work: &mut [u32],
+    ) -> Result<(), HeapFault>
+        requires { ⌜ r < 32 ⌝ }
+        ensures { λ x. ⌜ ((m : Model) (a : Arena) → Shown m a (view memory (now (self .entry))) → memory (now (self .entry) .cells) .figures .cells ≤ length (now (work .entry)) →
+            1 ≤ length (now (text .entry)) → length (now (text .entry)) ≤ 1024 → Takes (memory (now (self .entry) .cells)) (now (text .entry)) →
+            Enters m a (view memory (now (self .entry))) r (now (text .entry)) (view memory (now (self .exit))) x) ⌝ }
+    {
+        let State::Opened(bins, _) = self.state else {
+            return Err(HeapFault::Unlawful(1, 0));
+        };
+        let found = find(&self.cells, bins, text)?;
+        match found {
+            Some(title) => {
+                let string = pointer_at(title, 1)?;
+                self.registers[r as usize] = string;
+                Ok(())
+            }
+            None => self.add_text(r, bins, text, work),
+        }
+    }
+
+    // Register r holds the string of these characters, or null if there are none.
+    pub(crate) fn text(
+        &mut self,
+        r: u32,
+        bytes: &[u8],
+        work: &mut [u32],
+    ) -> Result<(), WorkspaceFault>
+        ensures exact { λ a. ⌜ ExactWith (view memory (now (self .entry))) (length (now (work .entry))) (rule-text r (now (bytes .entry))) (answered nothing a) (view memory (now (self .exit))) ⌝ }
+        ensures kept { λ a. ⌜ Untouched (view memory (now (self .entry))) a (now (self .exit) ≡ now (self .entry)) (now (work .exit) ≡ now (work .entry)) ⌝ }
+    {
+        self.admit(Word::Text, &[r])?;
+        in_call(fit_text(&self.cells, bytes), Word::Text, r)?;
+        self.take_list(Word::Text, r, work)?;
+        if bytes.len() == 0 {
+            self.registers[r as usize] = plain(0, 0, 1);
+            return Ok(());
+        }
+        in_call(self.put_text(r, bytes, work), Word::Text, r)?;
+        Ok(())
     }
 }

@@ -1,19 +1,30 @@
 use mathlib.Core.Path.{_≡_, refl, ap, subst, _∙_}
+use mathlib.Core.List.{[]}
 use lib.ListN.{length}
-use Rattle.std.specs.declared.result.Result.the-variants.{Ok, Err}
+use Rattle.std.specs.declared.result.Result.the-variants.{Err}
 use Rattle.rules.specs.declared.Word.{Word}
 use Rattle.rules.specs.Model.{Model}
 use Rattle.rules.specs.Arena.{Arena}
 use Rattle.rules.specs.Calls.{Call}
 use Rattle.workspace.specs.declared.faults.Raised.{Raised}
 use Rattle.workspace.specs.Reports.{told}
-use Rattle.workspace.specs.Shown.{Shown, view}
+use Rattle.workspace.specs.Shown.{Shown, view, count}
 use Rattle.workspace.specs.Rooms.{RoomOf, Regains}
 use Rattle.workspace.proofs.Raises.{raised-since, raised-gave}
 use Rattle.workspace.proofs.Steps.{passed}
+use Rattle.workspace.proofs.Wants.{at-door-with}
 use Rattle.workspace.proofs.Fulls.{fault-of, untouched-same, untouched-full}
 use Rattle.workspace.proofs.Collects.{collect-short, collect-full, collect-regained}
 use Rattle.workspace.proofs.space.Workspace.collect.Needs as need
+
+pub returns-in-Break-admit : need.returns-in-Break-admit
+returns-in-Break-admit g c =
+    record {
+      exact = at-door-with (view (g .S·Store .memory) (c .args .self .now)) (length (c .args .work .now)) (Call.collect (c .args .n)) [] count
+          (c .from-residual .result) (c .in-Break-admit .field-0 .0) (c .in-Break-admit .ensures tt) (passed (c .from-residual .result) _ _ (c .from-residual .ensures .1) refl) refl
+          (λ l m u h. (_, refl));
+      kept = untouched-same _ (c .from-residual .result) _ _ refl refl;
+    }
 
 pub returns-in-Break-take-list : need.returns-in-Break-take-list
 returns-in-Break-take-list g c =

@@ -23,7 +23,7 @@ returns g c =
     let s = c .args .s in
     let ok = c .in-Continue-admit .ensures tt in
     record {
-      exact = by-giving v _ (Call.copy r s) (r ∷ s ∷ []) [] [] ok tt
+      exact = by-giving v _ (Call.copy r s) (r ∷ s ∷ []) [] [] ok tt refl
           (λ m a h. (
             put m r (register m s),
             (λ l u t. refl),

@@ -99,7 +99,7 @@ returns g c =
     let some = quotient-some _ _ x y z (toZ-ofZ w32 x fx) (toZ-ofZ w32 y fy) (c .in-Some .ensures tt) in
     let d = c .plain .ensures ∙ ap (λ (k : ℤ). desc k 0 6) (toZ-ofZ w32 z fz) in
     record {
-      exact = by-giving v _ (Call.divide r s q) (r ∷ s ∷ q ∷ []) [] [] ok tt
+      exact = by-giving v _ (Call.divide r s q) (r ∷ s ∷ q ∷ []) [] [] ok tt refl
           (λ m a h. (
             put m r (Value.number z),
             (λ l u t. ap (registers-then (r ∷ s ∷ q ∷ []))

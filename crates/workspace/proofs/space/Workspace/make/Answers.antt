@@ -2,7 +2,7 @@ use mathlib.Core.Path.{_≡_, refl, ap, subst, _∙_}
 use mathlib.Core.List.{[], _∷_}
 use Prim.Native.Nat.{_+_}
 use lib.ListN.{length}
-use Rattle.std.specs.declared.result.Result.the-variants.{Ok, Err}
+use Rattle.std.specs.declared.result.Result.the-variants.{Err}
 use Rattle.rules.specs.Model.{Model}
 use Rattle.rules.specs.Arena.{Arena}
 use Rattle.rules.specs.Calls.{Call, put-block}

@@ -24,7 +24,7 @@ returns g c =
     let r = c .args .r in
     let ok = c .in-Continue-admit .ensures tt in
     record {
-      exact = by-giving v _ (Call.null r) (r ∷ []) [] [] ok tt
+      exact = by-giving v _ (Call.null r) (r ∷ []) [] [] ok tt refl
           (λ m a s. (
             put m r Value.null,
             (λ l u h. refl),

@@ -29,7 +29,7 @@ returns g c =
     let ok = c .in-Continue-admit .ensures tt in
     let d = c .plain .ensures ∙ ap (λ (y : ℤ). desc y 0 6) (toZ-ofZ w32 z (c .fits .z)) in
     record {
-      exact = by-giving v _ (Call.number r z) (r ∷ []) [] [] ok tt
+      exact = by-giving v _ (Call.number r z) (r ∷ []) [] [] ok tt refl
           (λ m a s. (
             put m r (Value.number z),
             (λ l u h. refl),

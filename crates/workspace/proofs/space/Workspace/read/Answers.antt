@@ -32,7 +32,7 @@ returns-in-Null g c =
     let buffer = c .args .buffer .now in
     let ok = c .in-Continue-admit .ensures tt in
     record {
-      exact = by-giving v v (Call.read r (length buffer)) (r ∷ []) (pos 0 ∷ []) [] ok tt
+      exact = by-giving v v (Call.read r (length buffer)) (r ∷ []) (pos 0 ∷ []) [] ok tt refl
           (λ m a s. (m, (λ l u h. ap (registers-then (r ∷ [])) (read-null m r (length buffer) (null-in s r (ok .1 .0) (c .in-Null .ensures tt .flags)))), s));
       rest = opened-leaves v (Ok 0) buffer buffer (ok .0) (λ m a s. refl);
     }

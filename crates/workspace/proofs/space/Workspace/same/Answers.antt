@@ -18,6 +18,6 @@ returns g c =
     let r = c .args .r in
     let s = c .args .s in
     let ok = c .in-Continue-admit .ensures tt in
-    by-giving v v (Call.same r s) (r ∷ s ∷ []) (count (c .agreement .result)) [] ok tt
+    by-giving v v (Call.same r s) (r ∷ s ∷ []) (count (c .agreement .result)) [] ok tt refl
     (λ m a h. let e = same-count m a v h r s (c .agreement .result) (ok .1 .0) (ok .1 .1 .0) (c .agreement .ensures .equal) (c .agreement .ensures .unequal) in
     (m, (λ l u t. ap (λ (z : ℤ). registers-then (r ∷ s ∷ []) (give (z ∷ []) [] m)) e), h))
