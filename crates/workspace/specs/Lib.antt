@@ -4,3 +4,5 @@ pub mod Rooms
 pub mod Opened
 pub mod Taken
 pub mod Numbers
+pub mod Logs
+pub mod Comparing
