@@ -2,19 +2,15 @@
 use mathlib.Core.Path.{_≡_}
 use mathlib.Core.List.{List, [], _∷_, map}
 use Prim.Native.Nat.{ℕ}
-use lib.IntN.{ℤ, pos}
+use lib.IntN.{pos}
 use Rattle.std.specs.Of.Vec.{vec-items}
-use Rattle.std.specs.declared.result.Result.{Result}
-use Rattle.std.specs.declared.result.Result.the-variants.{Ok, Err}
 use Rattle.rules.specs.declared.Request.{Request}
-use Rattle.rules.specs.Model.{Text, Model}
+use Rattle.rules.specs.Model.{Model}
 use Rattle.rules.specs.Arena.{Arena}
 use Rattle.rules.specs.Calls.{Call, make, text, collect, Answer, ok, no, Outcome, answers, Run}
 use Rattle.rules.specs.Requests.{meant}
-use Rattle.workspace.specs.declared.faults.WorkspaceFault.{WorkspaceFault}
 use Rattle.workspace.specs.declared.runs.Entry.{Entry}
-use Rattle.workspace.specs.declared.runs.Reply.{Reply}
-use Rattle.workspace.specs.declared.runs.Reply.the-variants.{Done, Count, Pair}
+use Rattle.workspace.specs.declared.runs.Entry.the-variants.{Done, Count, Pair, Read, Refused}
 use Rattle.workspace.specs.Reports.{report}
 use Rattle.workspace.specs.Shown.{View, Shown, limits, Exact, ExactWith}
 
@@ -34,19 +30,13 @@ Performs v work (Call.kind r) x w = Exact v (Call.kind r) x w
 Performs v work (Call.read r n) x w = Exact v (Call.read r n) x w
 Performs v work (Call.same r s) x w = Exact v (Call.same r s) x w
 
--- The numbers of a reply.
-abbrev pub numbers-of : Reply → List ℤ
-numbers-of Done = []
-numbers-of (Count n) = pos n ∷ []
-numbers-of (Pair t z) = pos t ∷ z ∷ []
-
 -- An entry of a log as the rules have answers: the numbers and the characters written, or the refusal.
-abbrev pub entry-of : Result Reply WorkspaceFault → Text → Answer
-entry-of (Ok x) written = ok (numbers-of x) written
-entry-of (Err e) written = no (report e)
-
 abbrev pub entry : Entry → Answer
-entry e = entry-of (e .answer) (vec-items (e .written))
+entry Done = ok [] []
+entry (Count n) = ok (pos n ∷ []) []
+entry (Pair t z) = ok (pos t ∷ z ∷ []) []
+entry (Read n characters) = ok (pos n ∷ []) (vec-items characters)
+entry (Refused f) = no (report f)
 
 abbrev pub entries : List Entry → List Answer
 entries log = map entry log

@@ -1,7 +1,6 @@
 // Lists of calls, and what a workspace answers to each.
 ghost use mathlib.Core.Path.{_≡_};
-ghost use mathlib.Core.List.{List};
-ghost use Prim.Native.Nat.{ℕ, _≤_};
+ghost use Prim.Native.Nat.{_≤_};
 ghost use lib.ListN.{length};
 ghost use Rattle.std.specs.Of.Vec.{vec-items};
 ghost use Rattle.std.specs.Vec.{made};
@@ -18,60 +17,43 @@ use rules::Request;
 use std::alloc::AllocError;
 use std::alloc::Global;
 
-// The numbers that a call answers.
-#[derive(Clone, Copy)]
-pub enum Reply {
+// An entry of a log: the numbers that a call answered, for read also the characters, or its refusal.
+#[derive(Drop)]
+pub enum Entry {
     Done,
     Count(u32),
     Pair(u32, i64),
-}
-
-// An entry of a log: what a call answered, and the characters that it wrote.
-#[derive(Drop)]
-pub struct Entry {
-    pub answer: Result<Reply, WorkspaceFault>,
-    pub written: Vec<u8>,
+    Read(u32, Vec<u8>),
+    Refused(WorkspaceFault),
 }
 
 // The entry of a call that answers no number.
-fn done(heap: Global, r: Result<(), WorkspaceFault>) -> Entry
+fn done(r: Result<(), WorkspaceFault>) -> Entry
     ensures { λ e. ⌜ entry e ≡ answered nothing r ⌝ }
 {
-    let answer = match r {
-        Ok(()) => Ok(Reply::Done),
-        Err(f) => Err(f),
-    };
-    Entry {
-        answer,
-        written: Vec::new(heap),
+    match r {
+        Ok(()) => Entry::Done,
+        Err(f) => Entry::Refused(f),
     }
 }
 
 // The entry of a call that answers one number.
-fn counted(heap: Global, r: Result<u32, WorkspaceFault>) -> Entry
+fn counted(r: Result<u32, WorkspaceFault>) -> Entry
     ensures { λ e. ⌜ entry e ≡ answered count r ⌝ }
 {
-    let answer = match r {
-        Ok(n) => Ok(Reply::Count(n)),
-        Err(f) => Err(f),
-    };
-    Entry {
-        answer,
-        written: Vec::new(heap),
+    match r {
+        Ok(n) => Entry::Count(n),
+        Err(f) => Entry::Refused(f),
     }
 }
 
 // The entry of a call that answers two numbers.
-fn paired(heap: Global, r: Result<(u32, i64), WorkspaceFault>) -> Entry
+fn paired(r: Result<(u32, i64), WorkspaceFault>) -> Entry
     ensures { λ e. ⌜ entry e ≡ answered pair r ⌝ }
 {
-    let answer = match r {
-        Ok((t, z)) => Ok(Reply::Pair(t, z)),
-        Err(f) => Err(f),
-    };
-    Entry {
-        answer,
-        written: Vec::new(heap),
+    match r {
+        Ok((t, z)) => Entry::Pair(t, z),
+        Err(f) => Entry::Refused(f),
     }
 }
 
@@ -84,15 +66,9 @@ impl<S: Store> Workspace<S> {
         match self.read(r, &mut buffer) {
             Ok(count) => {
                 buffer.truncate(count as usize);
-                Ok(Entry {
-                    answer: Ok(Reply::Count(count)),
-                    written: buffer,
-                })
+                Ok(Entry::Read(count, buffer))
             }
-            Err(f) => Ok(Entry {
-                answer: Err(f),
-                written: buffer,
-            }),
+            Err(f) => Ok(Entry::Refused(f)),
         }
     }
 
@@ -106,19 +82,19 @@ impl<S: Store> Workspace<S> {
         ensures { λ a. ⌜ made a (λ e. Performs (view memory (now (self .entry))) (length (now (work .entry))) (meant (request .entry)) (entry e) (view memory (now (self .exit)))) ⌝ }
     {
         match request {
-            Request::Null(r) => Ok(done(heap, self.null(r))),
-            Request::Number(r, i) => Ok(done(heap, self.number(r, i))),
-            Request::Copy(r, s) => Ok(done(heap, self.copy(r, s))),
-            Request::Make(r, n, t) => Ok(done(heap, self.make(r, n, t, work))),
-            Request::Text(r, bytes) => Ok(done(heap, self.text(r, bytes, work))),
-            Request::Name(r, s, k) => Ok(done(heap, self.name(r, s, k))),
-            Request::Fetch(r, s) => Ok(done(heap, self.fetch(r, s))),
-            Request::Store(r, s) => Ok(done(heap, self.store(r, s))),
-            Request::Divide(r, s, q) => Ok(done(heap, self.divide(r, s, q))),
-            Request::Kind(r) => Ok(paired(heap, self.kind(r))),
+            Request::Null(r) => Ok(done(self.null(r))),
+            Request::Number(r, i) => Ok(done(self.number(r, i))),
+            Request::Copy(r, s) => Ok(done(self.copy(r, s))),
+            Request::Make(r, n, t) => Ok(done(self.make(r, n, t, work))),
+            Request::Text(r, bytes) => Ok(done(self.text(r, bytes, work))),
+            Request::Name(r, s, k) => Ok(done(self.name(r, s, k))),
+            Request::Fetch(r, s) => Ok(done(self.fetch(r, s))),
+            Request::Store(r, s) => Ok(done(self.store(r, s))),
+            Request::Divide(r, s, q) => Ok(done(self.divide(r, s, q))),
+            Request::Kind(r) => Ok(paired(self.kind(r))),
             Request::Read(r, n) => self.read_entry(heap, r, n),
-            Request::Same(r, s) => Ok(counted(heap, self.same(r, s))),
-            Request::Collect(n) => Ok(counted(heap, self.collect(n, work))),
+            Request::Same(r, s) => Ok(counted(self.same(r, s))),
+            Request::Collect(n) => Ok(counted(self.collect(n, work))),
         }
     }
 
