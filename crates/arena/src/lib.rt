@@ -1,3 +1,4 @@
+#![tactic(auto)]
 // An arena over any store of cells: titles, values, fields, blocks and strings, read and added to.
 pub mod blocks;
 pub mod entering;

@@ -1,3 +1,4 @@
+#![tactic(auto)]
 // The heap over any store of cells: marking, moving, regeneration and room.
 mod descriptors;
 pub mod effects;

@@ -1,3 +1,4 @@
+#![tactic(auto)]
 // Reads names, one to a line, and prints what each takes in either layout, and what an arena for all of them needs. The
 // number of bins is the first argument, or 64.
 use anyhow::anyhow;

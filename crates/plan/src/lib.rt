@@ -1,3 +1,4 @@
+#![tactic(auto)]
 // Planning an arena for a list of names.
 pub mod names;
 pub mod tallies;

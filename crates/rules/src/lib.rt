@@ -1,3 +1,4 @@
+#![tactic(auto)]
 // The rules of the names workspace, as definitions that contracts cite.
 
 ghost use Rattle.rules.specs.Compared.{Compared, Determined, Runs, Unaltered};

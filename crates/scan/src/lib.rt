@@ -1,3 +1,4 @@
+#![tactic(auto)]
 // Splits tokens off a script, and says what each may be taken for.
 pub mod args;
 pub mod reader;

@@ -1,3 +1,4 @@
+#![tactic(auto)]
 // Tries scripts against their outcome: every decided point, and every limit at its edge and one past it.
 #[cfg(test)]
 mod table;

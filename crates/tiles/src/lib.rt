@@ -1,3 +1,4 @@
+#![tactic(auto)]
 // What the tile server, a C program, asks: the key of a text, and the cells that its string takes.
 ghost use Rattle.std.specs.Prelude.{◌≡◌};
 ghost use Rattle.rules.specs.Keys.{key};

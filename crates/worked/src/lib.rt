@@ -1,3 +1,4 @@
+#![tactic(auto)]
 // Worked examples of the two layouts and of the rules, as one theorem on the definitions that contracts cite, and tests of
 // the layouts on the same cells.
 ghost use Rattle.worked.specs.Worked.{WorkedExamples};

@@ -1,3 +1,4 @@
+#![tactic(auto)]
 // A workspace of names over any store: 32 registers, and the calls on them.
 pub mod calls;
 pub mod comparing;
