@@ -39,8 +39,8 @@ pub fn block_title(at: u32, n: u32) -> Result<Descriptor, HeapFault>
 
 // Writes one descriptor into n cells.
 pub fn fill<S: Store>(store: &mut S, at: u32, n: u32, d: Descriptor) -> Result<(), HeapFault>
-    ensures { at + n ≤ (memory store.old).figures.cells → FitDescriptor (memory store.old).figures d →
-        ((result ≡ Ok tt) × Filled (memory store.old) at n d (memory store.new)) }
+    ensures { at + n ≤ (S.memory store.old).figures.cells → FitDescriptor (S.memory store.old).figures d →
+        ((result ≡ Ok tt) × Filled (S.memory store.old) at n d (S.memory store.new)) }
 {
     let cells = store.cells();
     if at > cells || n > cells - at {
@@ -54,9 +54,9 @@ pub fn fill<S: Store>(store: &mut S, at: u32, n: u32, d: Descriptor) -> Result<(
 
 // Writes a block of n null fields, and gives the first cell after it.
 pub fn write_block<S: Store>(store: &mut S, next: u32, n: u32) -> Result<u32, HeapFault>
-    ensures made { n ≤ 65535 → next + n + 1 ≤ (memory store.old).figures.cells →
-        ((result ≡ Ok (next + n + 1)) × Made (memory store.old) next n (memory store.new)) }
-    ensures full { (memory store.old).figures.cells < next + n + 1 → ((result ≡ Err NoRoom) × (store.new ≡ store.old)) }
+    ensures made { n ≤ 65535 → next + n + 1 ≤ (S.memory store.old).figures.cells →
+        ((result ≡ Ok (next + n + 1)) × Made (S.memory store.old) next n (S.memory store.new)) }
+    ensures full { (S.memory store.old).figures.cells < next + n + 1 → ((result ≡ Err NoRoom) × (store.new ≡ store.old)) }
 {
     let cells = store.cells();
     if next >= cells || n >= cells - next {
@@ -70,9 +70,9 @@ pub fn write_block<S: Store>(store: &mut S, next: u32, n: u32) -> Result<u32, He
 
 // Adds a block of n null fields to the arena, and gives the first free cell then.
 pub fn make_block<S: Store>(store: &mut S, next: u32, n: u32) -> Result<u32, HeapFault>
-    ensures made { (m : Model) (a : Arena) → Shows m a (memory store.old) → next ≡ a.«next» → 1 ≤ n → n ≤ 4096 → next + n + 1 ≤ (memory store.old).figures.cells →
-        ((result ≡ Ok (next + n + 1)) × Grown m a (memory store.old) (block (length m.made)) (add_block m n) (arena_with_block m a n) (memory store.new)) }
-    ensures full { (memory store.old).figures.cells < next + n + 1 → ((result ≡ Err NoRoom) × (store.new ≡ store.old)) }
+    ensures made { (m : Model) (a : Arena) → Shows m a (S.memory store.old) → next ≡ a.«next» → 1 ≤ n → n ≤ 4096 → next + n + 1 ≤ (S.memory store.old).figures.cells →
+        ((result ≡ Ok (next + n + 1)) × Grown m a (S.memory store.old) (block (length m.made)) (add_block m n) (arena_with_block m a n) (S.memory store.new)) }
+    ensures full { (S.memory store.old).figures.cells < next + n + 1 → ((result ≡ Err NoRoom) × (store.new ≡ store.old)) }
 {
     write_block(store, next, n)
 }

@@ -19,7 +19,7 @@ use rules::cells_of_string;
 
 // The head or link behind which a string with this number goes.
 pub fn place_for<S: Store>(store: &S, head: u32, number: u32) -> Result<u32, HeapFault>
-    ensures { (p : ℕ) → Backward (memory store.now) number head (memory store.now).figures.cells p → result ≡ Ok p }
+    ensures { (p : ℕ) → Backward (S.memory store.now) number head (S.memory store.now).figures.cells p → result ≡ Ok p }
 {
     let mut cell = head;
     let mut left = store.cells();
@@ -53,8 +53,8 @@ pub fn code_for(text: &[u8], lowest: u8, j: u32) -> u8
 
 // Writes the characters of a string into `rows` cells, and the lowest code after the last.
 pub fn spell<S: Store>(store: &mut S, at: u32, rows: u32, text: &[u8]) -> Result<(), HeapFault>
-    ensures { at + rows ≤ (memory store.old).figures.cells → Takes (memory store.old) text.now →
-        ((result ≡ Ok tt) × Writing (memory store.old) at rows text.now (rows * (memory store.old).figures.places) (memory store.new)) }
+    ensures { at + rows ≤ (S.memory store.old).figures.cells → Takes (S.memory store.old) text.now →
+        ((result ≡ Ok tt) × Writing (S.memory store.old) at rows text.now (rows * (S.memory store.old).figures.places) (S.memory store.new)) }
 {
     let places = store.places();
     let lowest = store.lowest();
@@ -83,8 +83,8 @@ pub fn string_title(at: u32, size: u32) -> Result<Descriptor, HeapFault>
 
 // Writes a string's title, its null value and label, and its link.
 pub fn frame<S: Store>(store: &mut S, at: u32, size: u32, link: Descriptor) -> Result<(), HeapFault>
-    ensures { at + 2 + string_fields ≤ (memory store.old).figures.cells → size ≤ 65535 → FitDescriptor (memory store.old).figures link →
-        ((result ≡ Ok tt) × Framed (memory store.old) at size link (memory store.new)) }
+    ensures { at + 2 + string_fields ≤ (S.memory store.old).figures.cells → size ≤ 65535 → FitDescriptor (S.memory store.old).figures link →
+        ((result ≡ Ok tt) × Framed (S.memory store.old) at size link (S.memory store.new)) }
 {
     let title = string_title(at, size)?;
     let null = null_value();
@@ -117,10 +117,10 @@ pub fn write_string<S: Store>(
     link: Descriptor,
 ) -> Result<u32, HeapFault>
     ensures { 1 ≤ length text.now → length text.now ≤ 1024 →
-        next + string_cells (memory store.old).figures.places (length text.now) ≤ (memory store.old).figures.cells →
-        FitDescriptor (memory store.old).figures link → Takes (memory store.old) text.now →
-        ((result ≡ Ok (next + string_cells (memory store.old).figures.places (length text.now))) ×
-        Written (memory store.old) next text.now link (memory store.new)) }
+        next + string_cells (S.memory store.old).figures.places (length text.now) ≤ (S.memory store.old).figures.cells →
+        FitDescriptor (S.memory store.old).figures link → Takes (S.memory store.old) text.now →
+        ((result ≡ Ok (next + string_cells (S.memory store.old).figures.places (length text.now))) ×
+        Written (S.memory store.old) next text.now link (S.memory store.new)) }
 {
     if text.len() > LONGEST_TEXT {
         return Err(HeapFault::LongText);
@@ -142,9 +142,9 @@ pub fn write_string<S: Store>(
 
 // Enters a string at the first free cell, behind all of its chain whose number is not greater, and gives the first free cell then.
 pub fn enter<S: Store>(store: &mut S, bins: u32, next: u32, text: &[u8]) -> Result<u32, HeapFault>
-    ensures { (c : ℕ) → 1 ≤ bins → Open (memory store.old) next (bin bins text.now) (ascension bins text.now) c text.now →
-        ((result ≡ Ok (next + string_cells (memory store.old).figures.places (length text.now))) ×
-        Entered (memory store.old) next text.now (ascension bins text.now) c (memory store.new)) }
+    ensures { (c : ℕ) → 1 ≤ bins → Open (S.memory store.old) next (bin bins text.now) (ascension bins text.now) c text.now →
+        ((result ≡ Ok (next + string_cells (S.memory store.old).figures.places (length text.now))) ×
+        Entered (S.memory store.old) next text.now (ascension bins text.now) c (S.memory store.new)) }
 {
     let (head, number) = slot_of(bins, text)?;
     let place = place_for(store, head, number)?;
@@ -162,10 +162,10 @@ pub fn enter_text<S: Store>(
     next: u32,
     text: &[u8],
 ) -> Result<u32, HeapFault>
-    ensures { (m : Model) (a : Arena) → Fresh m a text.now bins next (memory store.old) →
-        ((result ≡ Ok (next + string_cells (memory store.old).figures.places (length text.now))) ×
-        Grown m a (memory store.old) (string text.now) m (arena_with_text (memory store.old).figures.places a text.now)
-        (memory store.new)) }
+    ensures { (m : Model) (a : Arena) → Fresh m a text.now bins next (S.memory store.old) →
+        ((result ≡ Ok (next + string_cells (S.memory store.old).figures.places (length text.now))) ×
+        Grown m a (S.memory store.old) (string text.now) m (arena_with_text (S.memory store.old).figures.places a text.now)
+        (S.memory store.new)) }
 {
     enter(store, bins, next, text)
 }

@@ -13,7 +13,7 @@ use cells::{Descriptor, Store};
 
 // The fields of the block or string with this title.
 pub fn count_at<S: Store>(store: &S, title: u32) -> Result<u32, HeapFault>
-    ensures { (m : Model) (a : Arena) (x : Thing) → Shows m a (memory store.now) → At m a (memory store.now) x title → result ≡ Ok (fields m x) }
+    ensures { (m : Model) (a : Arena) (x : Thing) → Shows m a (S.memory store.now) → At m a (S.memory store.now) x title → result ≡ Ok (fields m x) }
 {
     let t = store.descriptor(title)?;
     Ok(field_count(t))
@@ -28,7 +28,7 @@ pub fn text_length(t: Descriptor) -> u32
 
 // The length of the string with this title.
 pub fn length_at<S: Store>(store: &S, title: u32) -> Result<u32, HeapFault>
-    ensures { (m : Model) (a : Arena) (t : Text) → Shows m a (memory store.now) → At m a (memory store.now) (string t) title → result ≡ Ok (length t) }
+    ensures { (m : Model) (a : Arena) (t : Text) → Shows m a (S.memory store.now) → At m a (S.memory store.now) (string t) title → result ≡ Ok (length t) }
 {
     let t = store.descriptor(title)?;
     Ok(text_length(t))
@@ -43,9 +43,9 @@ pub fn is_field(k: u32, n: u32) -> bool
 
 // The name of field k of the block or string with this title.
 pub fn name_of<S: Store>(store: &S, title: u32, k: u32) -> Result<Descriptor, HeapFault>
-    ensures there { (m : Model) (a : Arena) (x : Thing) → Shows m a (memory store.now) → At m a (memory store.now) x title → 1 ≤ k → k ≤ fields m x →
+    ensures there { (m : Model) (a : Arena) (x : Thing) → Shows m a (S.memory store.now) → At m a (S.memory store.now) x title → 1 ≤ k → k ≤ fields m x →
         result ≡ Ok (desc (pos (title + k)) 16 9) }
-    ensures absent { (m : Model) (a : Arena) (x : Thing) → Shows m a (memory store.now) → At m a (memory store.now) x title → (k < 1) ⊎ (fields m x < k) →
+    ensures absent { (m : Model) (a : Arena) (x : Thing) → Shows m a (S.memory store.now) → At m a (S.memory store.now) x title → (k < 1) ⊎ (fields m x < k) →
         result ≡ Err (NoField k) }
 {
     let n = count_at(store, title)?;
@@ -57,15 +57,15 @@ pub fn name_of<S: Store>(store: &S, title: u32, k: u32) -> Result<Descriptor, He
 
 // The title of the block or string to which a name's cell belongs, and the number of the field.
 pub fn named<S: Store>(store: &S, cell: u32) -> Result<(u32, u32), HeapFault>
-    ensures { (m : Model) (a : Arena) (x : Thing) (k : ℕ) (f : Field m a (memory store.now) x k cell) → result ≡ Ok (f.title, k) }
+    ensures { (m : Model) (a : Arena) (x : Thing) (k : ℕ) (f : Field m a (S.memory store.now) x k cell) → result ≡ Ok (f.title, k) }
 {
     title_of(store, cell)
 }
 
 // The value in the field with this cell.
 pub fn fetch_field<S: Store>(store: &S, cell: u32) -> Result<Descriptor, HeapFault>
-    ensures { (m : Model) (a : Arena) (x : Thing) (k : ℕ) → Field m a (memory store.now) x k cell →
-        ((d : Desc) × (result ≡ Ok d) × Codes m a (memory store.now) (m.field x k) d) }
+    ensures { (m : Model) (a : Arena) (x : Thing) (k : ℕ) → Field m a (S.memory store.now) x k cell →
+        ((d : Desc) × (result ≡ Ok d) × Codes m a (S.memory store.now) (m.field x k) d) }
 {
     let d = store.descriptor(cell)?;
     Ok(d)
@@ -73,8 +73,8 @@ pub fn fetch_field<S: Store>(store: &S, cell: u32) -> Result<Descriptor, HeapFau
 
 // Puts a value into the field with this cell.
 pub fn store_field<S: Store>(store: &mut S, cell: u32, d: Descriptor) -> Result<(), HeapFault>
-    ensures stored { (m : Model) (a : Arena) (x : Thing) (k : ℕ) (v : Value) → Field m a (memory store.old) x k cell → Codes m a (memory store.old) v d → Proper m v →
-        ((result ≡ Ok tt) × Stored m a (memory store.old) x k v (memory store.new)) }
+    ensures stored { (m : Model) (a : Arena) (x : Thing) (k : ℕ) (v : Value) → Field m a (S.memory store.old) x k cell → Codes m a (S.memory store.old) v d → Proper m v →
+        ((result ≡ Ok tt) × Stored m a (S.memory store.old) x k v (S.memory store.new)) }
     ensures kept { OnErr result (store.new ≡ store.old) }
 {
     store.set_descriptor(cell, d)?;

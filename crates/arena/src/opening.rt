@@ -21,8 +21,8 @@ pub fn no_head() -> Descriptor
 
 // Zeroes the heads, and gives the first free cell.
 pub fn open_arena<S: Store>(store: &mut S, bins: u32) -> Result<u32, HeapFault>
-    ensures { 1 ≤ bins → bins ≤ 256 → bins ≤ (memory store.old).figures.cells →
-        ((result ≡ Ok bins) × ((memory store.new).figures ≡ (memory store.old).figures) × Shows empty (empty_arena bins) (memory store.new)) }
+    ensures { 1 ≤ bins → bins ≤ 256 → bins ≤ (S.memory store.old).figures.cells →
+        ((result ≡ Ok bins) × ((S.memory store.new).figures ≡ (S.memory store.old).figures) × Shows empty (empty_arena bins) (S.memory store.new)) }
 {
     fill(store, 0, bins, no_head())?;
     Ok(bins)

@@ -14,8 +14,8 @@ use rules::key_of;
 
 // Whether the string with this title has these characters.
 pub fn spells<S: Store>(store: &S, title: u32, text: &[u8]) -> Result<bool, HeapFault>
-    ensures { Readable (memory store.now) title →
-        ((Spells (memory store.now) title text.now → result ≡ Ok true) × ((Spells (memory store.now) title text.now → ⊥) → result ≡ Ok false)) }
+    ensures { Readable (S.memory store.now) title →
+        ((Spells (S.memory store.now) title text.now → result ≡ Ok true) × ((Spells (S.memory store.now) title text.now → ⊥) → result ≡ Ok false)) }
 {
     let places = store.places();
     let t = store.descriptor(title)?;
@@ -59,7 +59,7 @@ pub fn seek<S: Store>(
     number: u32,
     text: &[u8],
 ) -> Result<Option<u32>, HeapFault>
-    ensures { (p : Opt ℕ) → Sought (memory store.now) text.now number head (memory store.now).figures.cells p → result ≡ Ok p }
+    ensures { (p : Opt ℕ) → Sought (S.memory store.now) text.now number head (S.memory store.now).figures.cells p → result ≡ Ok p }
 {
     let mut link = head;
     let mut left = store.cells();
@@ -86,9 +86,9 @@ pub fn seek<S: Store>(
 
 // The title of the string with these characters, if the arena has it.
 pub fn find<S: Store>(store: &S, bins: u32, text: &[u8]) -> Result<Option<u32>, HeapFault>
-    ensures there { (m : Model) (a : Arena) (p : ℕ) → Shows m a (memory store.now) → bins ≡ a.bins →
-        At m a (memory store.now) (string text.now) p → result ≡ Ok (Some p) }
-    ensures absent { (m : Model) (a : Arena) → Shows m a (memory store.now) → bins ≡ a.bins →
+    ensures there { (m : Model) (a : Arena) (p : ℕ) → Shows m a (S.memory store.now) → bins ≡ a.bins →
+        At m a (S.memory store.now) (string text.now) p → result ≡ Ok (Some p) }
+    ensures absent { (m : Model) (a : Arena) → Shows m a (S.memory store.now) → bins ≡ a.bins →
         (In (string text.now) a.order → ⊥) → result ≡ Ok None }
 {
     let (cell, number) = slot_of(bins, text)?;

@@ -13,8 +13,8 @@ use cells::{Store, StoreFault};
 
 // Refuses a text that is too long, or that has a character which the store does not take.
 pub fn fit<S: Store>(store: &S, text: &[u8]) -> Result<(), HeapFault>
-    ensures exact { result ≡ fit_text (memory store.now).figures text.now }
-    ensures taken { result ≡ Ok tt → Takes (memory store.now) text.now }
+    ensures exact { result ≡ fit_text (S.memory store.now).figures text.now }
+    ensures taken { result ≡ Ok tt → Takes (S.memory store.now) text.now }
 {
     if text.len() > LONGEST_TEXT {
         return Err(HeapFault::LongText);
@@ -36,7 +36,7 @@ pub fn spell_out<S: Store>(
     title: u32,
     buffer: &mut [u8],
 ) -> Result<Option<u32>, HeapFault>
-    ensures { (t : List ℕ) → Readable (memory store.now) title → Spells (memory store.now) title t →
+    ensures { (t : List ℕ) → Readable (S.memory store.now) title → Spells (S.memory store.now) title t →
         ReadOut t buffer.old buffer.new result }
 {
     let places = store.places();
@@ -60,7 +60,7 @@ pub fn read_text<S: Store>(
     title: u32,
     buffer: &mut [u8],
 ) -> Result<Option<u32>, HeapFault>
-    ensures { (m : Model) (a : Arena) (t : Text) → Shows m a (memory store.now) → At m a (memory store.now) (string t) title →
+    ensures { (m : Model) (a : Arena) (t : Text) → Shows m a (S.memory store.now) → At m a (S.memory store.now) (string t) title →
         ReadOut t buffer.old buffer.new result }
 {
     spell_out(store, title, buffer)

@@ -9,7 +9,7 @@ use cells::{Descriptor, Store};
 
 // The title before a cell, and the distance to it.
 pub fn title_of<S: Store>(store: &S, cell: u32) -> Result<(u32, u32), HeapFault>
-    ensures { (p k : ℕ) → cell ≡ p + k → cell < (memory store.now).figures.cells → Back (memory store.now) p k → result ≡ Ok (p, k) }
+    ensures { (p k : ℕ) → cell ≡ p + k → cell < (S.memory store.now).figures.cells → Back (S.memory store.now) p k → result ≡ Ok (p, k) }
 {
     let mut at = cell;
     loop {

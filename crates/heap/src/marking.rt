@@ -20,8 +20,8 @@ pub fn enqueue<S: Store>(
     work: &mut [u32],
     tail: usize,
 ) -> Result<usize, HeapFault>
-    ensures { (m : Memory) (ts : List ℕ) → Queue m ts work.old tail (memory store.old) → In title ts →
-        ((t : ℕ) × (result ≡ Ok t) × Added m ts work.old tail title work.new t (memory store.new)) }
+    ensures { (m : Memory) (ts : List ℕ) → Queue m ts work.old tail (S.memory store.old) → In title ts →
+        ((t : ℕ) × (result ≡ Ok t) × Added m ts work.old tail title work.new t (S.memory store.new)) }
 {
     let t = store.descriptor(title)?;
     if t.flags & MARK != 0 {
@@ -42,8 +42,8 @@ pub fn visit<S: Store>(
     work: &mut [u32],
     tail: usize,
 ) -> Result<usize, HeapFault>
-    ensures { (m : Memory) (ts : List ℕ) → Queue m ts work.old tail (memory store.old) → Valued m ts d →
-        ((t : ℕ) × (result ≡ Ok t) × Visited m ts work.old tail d work.new t (memory store.new)) }
+    ensures { (m : Memory) (ts : List ℕ) → Queue m ts work.old tail (S.memory store.old) → Valued m ts d →
+        ((t : ℕ) × (result ≡ Ok t) × Visited m ts work.old tail d work.new t (S.memory store.new)) }
 {
     if !is_pointer(d) {
         return Ok(tail);
@@ -60,8 +60,8 @@ pub fn scan<S: Store>(
     work: &mut [u32],
     tail: usize,
 ) -> Result<usize, HeapFault>
-    ensures { (m : Memory) (ts : List ℕ) → Queue m ts work.old tail (memory store.old) → In title ts →
-        ((t : ℕ) × (result ≡ Ok t) × Scanned m ts title (count (m.descriptor title)) work.old tail work.new t (memory store.new)) }
+    ensures { (m : Memory) (ts : List ℕ) → Queue m ts work.old tail (S.memory store.old) → In title ts →
+        ((t : ℕ) × (result ≡ Ok t) × Scanned m ts title (count (m.descriptor title)) work.old tail work.new t (S.memory store.new)) }
 {
     let t = store.descriptor(title)?;
     let n = field_count(t);
@@ -80,8 +80,8 @@ pub fn scan<S: Store>(
 
 // Takes each title of the queue in turn, until all that is reached is marked.
 pub fn drain<S: Store>(store: &mut S, work: &mut [u32], tail: usize) -> Result<usize, HeapFault>
-    ensures { (m : Memory) (ts : List ℕ) → Queue m ts work.old tail (memory store.old) →
-        ((t : ℕ) × (result ≡ Ok t) × Marked m ts work.old tail work.new t (memory store.new)) }
+    ensures { (m : Memory) (ts : List ℕ) → Queue m ts work.old tail (S.memory store.old) →
+        ((t : ℕ) × (result ≡ Ok t) × Marked m ts work.old tail work.new t (S.memory store.new)) }
 {
     let mut end = tail;
     let mut head = 0;
@@ -102,9 +102,9 @@ pub fn mark_registers<S: Store>(
     work: &mut [u32],
     tail: usize,
 ) -> Result<usize, HeapFault>
-    ensures { (m : Memory) (ts : List ℕ) → Queue m ts work.old tail (memory store.old) →
+    ensures { (m : Memory) (ts : List ℕ) → Queue m ts work.old tail (S.memory store.old) →
         ((i : ℕ) → i < length registers.now → Valued m ts (slice_index_or registers.now i null_desc)) →
-        ((t : ℕ) × (result ≡ Ok t) × Registered m ts registers.now (length registers.now) work.old tail work.new t (memory store.new)) }
+        ((t : ℕ) × (result ≡ Ok t) × Registered m ts registers.now (length registers.now) work.old tail work.new t (S.memory store.new)) }
 {
     let mut end = tail;
     for d in registers {
@@ -121,8 +121,8 @@ pub fn mark_string<S: Store>(
     work: &mut [u32],
     tail: usize,
 ) -> Result<usize, HeapFault>
-    ensures { (m : Memory) (ts : List ℕ) → Queue m ts work.old tail (memory store.old) → In at ts → t ≡ (memory store.old).descriptor at →
-        ((e : ℕ) × (result ≡ Ok e) × Holding m at work.old tail ts work.new e (memory store.new)) }
+    ensures { (m : Memory) (ts : List ℕ) → Queue m ts work.old tail (S.memory store.old) → In at ts → t ≡ (S.memory store.old).descriptor at →
+        ((e : ℕ) × (result ≡ Ok e) × Holding m at work.old tail ts work.new e (S.memory store.new)) }
 {
     if t.flags & STRING == 0 {
         return Ok(tail);
@@ -146,8 +146,8 @@ pub fn mark_strings<S: Store>(
     work: &mut [u32],
     tail: usize,
 ) -> Result<usize, HeapFault>
-    ensures { (m : Memory) (ts : List ℕ) → Tiled m ts bins next → Queue m ts work.old tail (memory store.old) →
-        ((e : ℕ) × (result ≡ Ok e) × Searched m ts next next work.old tail work.new e (memory store.new)) }
+    ensures { (m : Memory) (ts : List ℕ) → Tiled m ts bins next → Queue m ts work.old tail (S.memory store.old) →
+        ((e : ℕ) × (result ≡ Ok e) × Searched m ts next next work.old tail work.new e (S.memory store.new)) }
 {
     let places = store.places();
     if next > MOST_CELLS {

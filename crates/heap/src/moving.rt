@@ -12,8 +12,8 @@ use cells::{Descriptor, Store};
 
 // Writes the new cell of each marked title into the table, and gives the first cell that is free then.
 pub fn layout<S: Store>(store: &S, bins: u32, next: u32, work: &mut [u32]) -> Result<u32, HeapFault>
-    ensures { (ts : List ℕ) → Tiled (memory store.now) ts bins next → (memory store.now).figures.cells ≤ length work.old →
-        ((t : ℕ) × (result ≡ Ok t) × Tabled (memory store.now) ts bins next next t work.new) }
+    ensures { (ts : List ℕ) → Tiled (S.memory store.now) ts bins next → (S.memory store.now).figures.cells ≤ length work.old →
+        ((t : ℕ) × (result ≡ Ok t) × Tabled (S.memory store.now) ts bins next next t work.new) }
 {
     let places = store.places();
     if next > MOST_CELLS {
@@ -39,7 +39,7 @@ pub fn layout<S: Store>(store: &S, bins: u32, next: u32, work: &mut [u32]) -> Re
 // A value whose pointer moves by as much as its block.
 pub fn forward<S: Store>(store: &S, d: Descriptor, work: &[u32]) -> Result<Descriptor, HeapFault>
     ensures plain { d.flags ≡ 0 → result ≡ Ok d }
-    ensures moved { (q k : ℕ) → Hits (memory store.now) work.now d q k → result ≡ Ok (desc (pos (slice_index work.now q + k)) 16 d.kind) }
+    ensures moved { (q k : ℕ) → Hits (S.memory store.now) work.now d q k → result ≡ Ok (desc (pos (slice_index work.now q + k)) 16 d.kind) }
 {
     if !is_pointer(d) {
         return Ok(d);
@@ -63,9 +63,9 @@ pub fn relocate_block<S: Store>(
     n: u32,
     work: &[u32],
 ) -> Result<(), HeapFault>
-    ensures { title + n < (memory store.old).figures.cells →
-        ((k : ℕ) → k < n → Ready (memory store.old) work.now ((memory store.old).descriptor (title + 1 + k))) →
-        ((result ≡ Ok tt) × Relocating (memory store.old) work.now title n (memory store.new)) }
+    ensures { title + n < (S.memory store.old).figures.cells →
+        ((k : ℕ) → k < n → Ready (S.memory store.old) work.now ((S.memory store.old).descriptor (title + 1 + k))) →
+        ((result ≡ Ok tt) × Relocating (S.memory store.old) work.now title n (S.memory store.new)) }
 {
     if title > MOST_CELLS || n > MOST_CELLS {
         return Err(HeapFault::Unlawful(0, 0));
@@ -87,8 +87,8 @@ pub fn relocate<S: Store>(
     next: u32,
     work: &[u32],
 ) -> Result<(), HeapFault>
-    ensures { (ts : List ℕ) → Tiled (memory store.old) ts bins next → Prepared (memory store.old) ts work.now →
-        ((result ≡ Ok tt) × Relocated (memory store.old) ts work.now bins next next (memory store.new)) }
+    ensures { (ts : List ℕ) → Tiled (S.memory store.old) ts bins next → Prepared (S.memory store.old) ts work.now →
+        ((result ≡ Ok tt) × Relocated (S.memory store.old) ts work.now bins next next (S.memory store.new)) }
 {
     let places = store.places();
     if next > MOST_CELLS {
@@ -112,8 +112,8 @@ pub fn move_registers<S: Store>(
     registers: &mut [Descriptor],
     work: &[u32],
 ) -> Result<(), HeapFault>
-    ensures { ((i : ℕ) → i < length registers.old → Ready (memory store.now) work.now (slice_index_or registers.old i null_desc)) →
-        ((result ≡ Ok tt) × Shifting (memory store.now) work.now registers.old (length registers.old) registers.new) }
+    ensures { ((i : ℕ) → i < length registers.old → Ready (S.memory store.now) work.now (slice_index_or registers.old i null_desc)) →
+        ((result ≡ Ok tt) × Shifting (S.memory store.now) work.now registers.old (length registers.old) registers.new) }
 {
     for register in registers.iter_mut() {
         *register = forward(store, *register, work)?;
@@ -123,7 +123,7 @@ pub fn move_registers<S: Store>(
 
 // Moves `size` cells down, from `from` to `to`.
 pub fn slide<S: Store>(store: &mut S, from: u32, to: u32, size: u32) -> Result<(), HeapFault>
-    ensures { to ≤ from → from + size ≤ (memory store.old).figures.cells → ((result ≡ Ok tt) × Slid (memory store.old) from to size (memory store.new)) }
+    ensures { to ≤ from → from + size ≤ (S.memory store.old).figures.cells → ((result ≡ Ok tt) × Slid (S.memory store.old) from to size (S.memory store.new)) }
 {
     let cells = store.cells();
     if to > from || from > cells || size > cells - from {
@@ -146,8 +146,8 @@ pub fn bring<S: Store>(
     to: u32,
     n: u32,
 ) -> Result<(), HeapFault>
-    ensures { to ≤ at → 1 ≤ n → at + n ≤ (memory store.old).figures.cells → t.kind ≤ 65535 →
-        ((result ≡ Ok tt) × Brought (memory store.old) t at to n (memory store.new)) }
+    ensures { to ≤ at → 1 ≤ n → at + n ≤ (S.memory store.old).figures.cells → t.kind ≤ 65535 →
+        ((result ≡ Ok tt) × Brought (S.memory store.old) t at to n (S.memory store.new)) }
 {
     let title = new_title(t, to)?;
     slide(store, at, to, n)?;
@@ -157,9 +157,9 @@ pub fn bring<S: Store>(
 
 // Moves every marked block down to its new cell, and takes the marks away.
 pub fn pack<S: Store>(store: &mut S, bins: u32, next: u32, work: &[u32]) -> Result<(), HeapFault>
-    ensures { (ts : List ℕ) (t : ℕ) → Tiled (memory store.old) ts bins next → (memory store.old).figures.cells ≤ length work.now →
-        Tabled (memory store.old) ts bins next next t work.now →
-        ((result ≡ Ok tt) × Packed (memory store.old) ts bins next (memory store.new)) }
+    ensures { (ts : List ℕ) (t : ℕ) → Tiled (S.memory store.old) ts bins next → (S.memory store.old).figures.cells ≤ length work.now →
+        Tabled (S.memory store.old) ts bins next next t work.now →
+        ((result ≡ Ok tt) × Packed (S.memory store.old) ts bins next (S.memory store.new)) }
 {
     let places = store.places();
     if next > MOST_CELLS {

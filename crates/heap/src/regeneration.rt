@@ -19,8 +19,8 @@ fn mark_roots<S: Store>(
     next: u32,
     work: &mut [u32],
 ) -> Result<usize, HeapFault>
-    ensures { (m : Model) (a : Arena) → Shown m a bins next registers.now work.old (memory store.old) →
-        Gives (λ (n : ℕ). Begun m a (memory store.old) registers.now bins next work.new n (memory store.new)) result }
+    ensures { (m : Model) (a : Arena) → Shown m a bins next registers.now work.old (S.memory store.old) →
+        Gives (λ (n : ℕ). Begun m a (S.memory store.old) registers.now bins next work.new n (S.memory store.new)) result }
 {
     let first = mark_registers(store, registers, work, 0)?;
     mark_strings(store, bins, next, work, first)
@@ -35,8 +35,8 @@ fn compact<S: Store>(
     work: &mut [u32],
     tail: usize,
 ) -> Result<u32, HeapFault>
-    ensures { (m : Model) (a : Arena) (before : Memory) → Begun m a before registers.old bins next work.old tail (memory store.old) →
-        Gives (λ (t : ℕ). Regenerated m a before bins t registers.new work.new (memory store.new)) result }
+    ensures { (m : Model) (a : Arena) (before : Memory) → Begun m a before registers.old bins next work.old tail (S.memory store.old) →
+        Gives (λ (t : ℕ). Regenerated m a before bins t registers.new work.new (S.memory store.new)) result }
 {
     let _ = drain(store, work, tail)?;
     let free = layout(store, bins, next, work)?;
@@ -56,8 +56,8 @@ pub fn regenerate<S: Store>(
     next: u32,
     work: &mut [u32],
 ) -> Result<u32, HeapFault>
-    ensures { (m : Model) (a : Arena) → Shown m a bins next registers.old work.old (memory store.old) →
-        Gives (λ (t : ℕ). Regenerated m a (memory store.old) bins t registers.new work.new (memory store.new)) result }
+    ensures { (m : Model) (a : Arena) → Shown m a bins next registers.old work.old (S.memory store.old) →
+        Gives (λ (t : ℕ). Regenerated m a (S.memory store.old) bins t registers.new work.new (S.memory store.new)) result }
 {
     let roots = mark_roots(store, registers, bins, next, work)?;
     compact(store, registers, bins, next, work, roots)

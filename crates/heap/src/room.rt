@@ -25,10 +25,10 @@ pub fn make_room<S: Store>(
     work: &mut [u32],
     need: u32,
 ) -> Result<(), HeapFault>
-    ensures answer { (m : Model) (a : Arena) → Shown m a bins next.old registers.old work.old (memory store.old) →
-        MakesRoom m a (memory store.old) bins next.old need registers.old next.new registers.new work.new (memory store.new) result }
-    ensures full { (m : Model) (a : Arena) → Shown m a bins next.old registers.old work.old (memory store.old) →
-        FullExactly m (memory store.old) bins need result }
+    ensures answer { (m : Model) (a : Arena) → Shown m a bins next.old registers.old work.old (S.memory store.old) →
+        MakesRoom m a (S.memory store.old) bins next.old need registers.old next.new registers.new work.new (S.memory store.new) result }
+    ensures full { (m : Model) (a : Arena) → Shown m a bins next.old registers.old work.old (S.memory store.old) →
+        FullExactly m (S.memory store.old) bins need result }
 {
     let cells = store.cells();
     if has_room(cells, *next, need) {

@@ -14,7 +14,7 @@ use cells::{Descriptor, Store};
 
 // A head or a link, past the strings that are not marked, to the new cell of the next one.
 pub fn relinked<S: Store>(store: &S, d: Descriptor, work: &[u32]) -> Result<Descriptor, HeapFault>
-    ensures { (ts : List ℕ) (d' : Desc) → Led (memory store.now) ts work.now d d' → result ≡ Ok d' }
+    ensures { (ts : List ℕ) (d' : Desc) → Led (S.memory store.now) ts work.now d d' → result ≡ Ok d' }
 {
     let mut link = d;
     let mut left = store.cells();
@@ -40,9 +40,9 @@ pub fn relinked<S: Store>(store: &S, d: Descriptor, work: &[u32]) -> Result<Desc
 
 // Gives one head or link its new value.
 pub fn relink<S: Store>(store: &mut S, cell: u32, work: &[u32]) -> Result<(), HeapFault>
-    ensures { (ts : List ℕ) (d' : Desc) → cell < (memory store.old).figures.cells →
-        Led (memory store.old) ts work.now ((memory store.old).descriptor cell) d' →
-        ((result ≡ Ok tt) × WroteDescriptor (memory store.old) cell d' (memory store.new)) }
+    ensures { (ts : List ℕ) (d' : Desc) → cell < (S.memory store.old).figures.cells →
+        Led (S.memory store.old) ts work.now ((S.memory store.old).descriptor cell) d' →
+        ((result ≡ Ok tt) × WroteDescriptor (S.memory store.old) cell d' (S.memory store.new)) }
 {
     let d = store.descriptor(cell)?;
     let link = relinked(store, d, work)?;
@@ -57,8 +57,8 @@ pub fn thread_links<S: Store>(
     next: u32,
     work: &[u32],
 ) -> Result<(), HeapFault>
-    ensures { (ts : List ℕ) (link : ℕ → Desc) → Tiled (memory store.old) ts bins next → Linkable (memory store.old) ts work.now link →
-        ((result ≡ Ok tt) × Threading (memory store.old) ts link next next (memory store.new)) }
+    ensures { (ts : List ℕ) (link : ℕ → Desc) → Tiled (S.memory store.old) ts bins next → Linkable (S.memory store.old) ts work.now link →
+        ((result ≡ Ok tt) × Threading (S.memory store.old) ts link next next (S.memory store.new)) }
 {
     let places = store.places();
     if next > MOST_CELLS {
@@ -78,9 +78,9 @@ pub fn thread_links<S: Store>(
 
 // Gives every head its new value.
 pub fn thread_heads<S: Store>(store: &mut S, bins: u32, work: &[u32]) -> Result<(), HeapFault>
-    ensures { (ts : List ℕ) (head : ℕ → Desc) → bins ≤ (memory store.old).figures.cells → ((q : ℕ) → In q ts → bins ≤ q) →
-        Headed (memory store.old) ts work.now bins head →
-        ((result ≡ Ok tt) × Heading (memory store.old) head bins (memory store.new)) }
+    ensures { (ts : List ℕ) (head : ℕ → Desc) → bins ≤ (S.memory store.old).figures.cells → ((q : ℕ) → In q ts → bins ≤ q) →
+        Headed (S.memory store.old) ts work.now bins head →
+        ((result ≡ Ok tt) × Heading (S.memory store.old) head bins (S.memory store.new)) }
 {
     for b in 0..bins {
         relink(store, b, work)?;

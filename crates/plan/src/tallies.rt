@@ -44,7 +44,7 @@ impl From<AllocError> for PlanFault {
 
 // Whether the store's codes have every character of a name.
 fn takes_all<S: Store>(store: &S, name: &[u8]) -> bool
-    ensures { result ≡ all_taken (memory store.now).figures name.now }
+    ensures { result ≡ all_taken (S.memory store.now).figures name.now }
 {
     let lowest = store.lowest();
     let highest = store.highest();
@@ -58,7 +58,7 @@ fn takes_all<S: Store>(store: &S, name: &[u8]) -> bool
 
 // The cells that a name's string takes in the store, or None where the store cannot hold it.
 pub fn cells_in<S: Store>(store: &S, name: &[u8]) -> Option<u32>
-    ensures { result ≡ cells_in (memory store.now).figures name.now }
+    ensures { result ≡ cells_in (S.memory store.now).figures name.now }
 {
     if name.is_empty() || name.len() > LONGEST || !takes_all(store, name) {
         return None;
@@ -68,7 +68,7 @@ pub fn cells_in<S: Store>(store: &S, name: &[u8]) -> Option<u32>
 
 // Whether the store can hold a name.
 fn holds<S: Store>(store: &S, name: &[u8]) -> bool
-    ensures { result ≡ can_hold (memory store.now).figures name.now }
+    ensures { result ≡ can_hold (S.memory store.now).figures name.now }
 {
     cells_in(store, name).is_some()
 }
@@ -76,7 +76,7 @@ fn holds<S: Store>(store: &S, name: &[u8]) -> bool
 // How many of the names the store holds.
 fn held_of<S: Store>(store: &S, names: &[&[u8]]) -> u32
     requires { length names.now ≤ 1048576 }
-    ensures { result ≡ held (memory store.now).figures (texts names.now) }
+    ensures { result ≡ held (S.memory store.now).figures (texts names.now) }
 {
     let mut count = 0;
     for name in names {
@@ -90,7 +90,7 @@ fn held_of<S: Store>(store: &S, names: &[&[u8]]) -> u32
 // The cells of the strings of all names that the store holds.
 fn all_cells<S: Store>(store: &S, names: &[&[u8]]) -> u32
     requires { length names.now ≤ 1048576 }
-    ensures value { result ≡ all_cells (memory store.now).figures (texts names.now) }
+    ensures value { result ≡ all_cells (S.memory store.now).figures (texts names.now) }
     ensures bound { result ≤ 1077936128 }
 {
     let mut cells = 0;
@@ -110,7 +110,7 @@ fn by_bin<S: Store>(
     requires few { length names.now ≤ 1048576 }
     requires some { 1 ≤ bins }
     ensures { IfOk result (λ v. (length v.items ≡ bins) ×
-        ((b : ℕ) → b < bins → slice_index v.items b ≡ in_bin (memory store.now).figures bins b (texts names.now))) }
+        ((b : ℕ) → b < bins → slice_index v.items b ≡ in_bin (S.memory store.now).figures bins b (texts names.now))) }
 {
     let mut counts = vec![in heap; 0; bins as usize]?;
     for name in names {
@@ -129,7 +129,7 @@ fn tallied<S: Store>(
     names: &[&[u8]],
     bins: u32,
 ) -> Result<Tally, PlanFault>
-    ensures { Planned (memory store.now).figures bins (texts names.now) result }
+    ensures { Planned (S.memory store.now).figures bins (texts names.now) result }
 {
     if bins == 0 || bins > MOST_BINS {
         return Err(PlanFault::BadBins);
@@ -155,7 +155,7 @@ pub fn plan_for<S: Store>(
     names: &[&[u8]],
     bins: u32,
 ) -> Result<Tally, PlanFault>
-    ensures { Planned (memory store.now).figures bins (distinct (texts names.now)) result }
+    ensures { Planned (S.memory store.now).figures bins (distinct (texts names.now)) result }
 {
     let once = distinct_of(heap, names)?;
     tallied(heap, store, &once, bins)

@@ -77,7 +77,7 @@ impl<S: Store> Workspace<S> {
 
     // Register r holds null.
     pub(crate) fn null(&mut self, r: u32) -> Result<(), WorkspaceFault>
-        ensures exact { Exact (view memory self.old) (rule_null r) (answered nothing result) (view memory self.new) }
+        ensures exact { Exact (view S.memory self.old) (rule_null r) (answered nothing result) (view S.memory self.new) }
         ensures kept { is_err result ≡ true → self.new ≡ self.old }
     {
         self.admit(Word::Null, &[r])?;
@@ -87,7 +87,7 @@ impl<S: Store> Workspace<S> {
 
     // Register r holds the number z.
     pub(crate) fn number(&mut self, r: u32, z: i32) -> Result<(), WorkspaceFault>
-        ensures exact { Exact (view memory self.old) (rule_number r z) (answered nothing result) (view memory self.new) }
+        ensures exact { Exact (view S.memory self.old) (rule_number r z) (answered nothing result) (view S.memory self.new) }
         ensures kept { is_err result ≡ true → self.new ≡ self.old }
     {
         self.admit(Word::Number, &[r])?;
@@ -97,7 +97,7 @@ impl<S: Store> Workspace<S> {
 
     // Register r holds what s holds.
     pub(crate) fn copy(&mut self, r: u32, s: u32) -> Result<(), WorkspaceFault>
-        ensures exact { Exact (view memory self.old) (rule_copy r s) (answered nothing result) (view memory self.new) }
+        ensures exact { Exact (view S.memory self.old) (rule_copy r s) (answered nothing result) (view S.memory self.new) }
         ensures kept { is_err result ≡ true → self.new ≡ self.old }
     {
         self.admit(Word::Copy, &[r, s])?;
@@ -107,7 +107,7 @@ impl<S: Store> Workspace<S> {
 
     // Register r holds the number in s by that in q, the fraction dropped.
     pub(crate) fn divide(&mut self, r: u32, s: u32, q: u32) -> Result<(), WorkspaceFault>
-        ensures exact { Exact (view memory self.old) (rule_divide r s q) (answered nothing result) (view memory self.new) }
+        ensures exact { Exact (view S.memory self.old) (rule_divide r s q) (answered nothing result) (view S.memory self.new) }
         ensures kept { is_err result ≡ true → self.new ≡ self.old }
     {
         self.admit(Word::Divide, &[r, s, q])?;
@@ -126,7 +126,7 @@ impl<S: Store> Workspace<S> {
 
     // 1 if the registers r and s hold the same value, else 0.
     pub(crate) fn same(&self, r: u32, s: u32) -> Result<u32, WorkspaceFault>
-        ensures { Exact (view memory self.now) (rule_same r s) (answered count result) (view memory self.now) }
+        ensures { Exact (view S.memory self.now) (rule_same r s) (answered count result) (view S.memory self.now) }
     {
         self.admit(Word::Same, &[r, s])?;
         Ok(agreement(self.registers[r as usize], self.registers[s as usize]))

@@ -34,7 +34,7 @@ impl From<AllocError> for CompareFault {
 
 // A workspace over a store, opened with this many bins.
 pub(crate) fn opened<S: Store + Drop>(store: S, bins: u32) -> Result<Workspace<S>, WorkspaceFault>
-    ensures { MatchResult result (λ w. Ready (with_bins (memory store).figures bins) (view memory w)) (λ f. open_answer (with_bins (memory store).figures bins) ≡ no (report f)) }
+    ensures { MatchResult result (λ w. Ready (with_bins (S.memory store).figures bins) (view S.memory w)) (λ f. open_answer (with_bins (S.memory store).figures bins) ≡ no (report f)) }
 {
     let mut w = Workspace::new(store);
     w.open(bins)?;
@@ -44,8 +44,8 @@ pub(crate) fn opened<S: Store + Drop>(store: S, bins: u32) -> Result<Workspace<S
 impl<S: Store> Workspace<S> {
     // The whole list, with a work list as long as the cells.
     pub(crate) fn log(&mut self, heap: Global, calls: &[Request]) -> Result<Vec<Entry>, AllocError>
-        ensures { (m : Model) (a : Arena) → Shown m a (view memory self.old) →
-            IfOk result (λ log. Logged (view memory self.old) m a (calls_of calls.now) (entries log.items) (view memory self.new)) }
+        ensures { (m : Model) (a : Arena) → Shown m a (view S.memory self.old) →
+            IfOk result (λ log. Logged (view S.memory self.old) m a (calls_of calls.now) (entries log.items) (view S.memory self.new)) }
     {
         let mut work = vec![in heap; 0u32; self.cells.cells() as usize]?;
         self.run(heap, calls, &mut work)

@@ -47,7 +47,7 @@ fn thing_in(d: Descriptor, call: Word, register: u32) -> Result<u32, WorkspaceFa
 impl<S: Store> Workspace<S> {
     // Register r holds the name of field k of the block or string in s.
     pub(crate) fn name(&mut self, r: u32, s: u32, k: u32) -> Result<(), WorkspaceFault>
-        ensures exact { Exact (view memory self.old) (rule_name r s k) (answered nothing result) (view memory self.new) }
+        ensures exact { Exact (view S.memory self.old) (rule_name r s k) (answered nothing result) (view S.memory self.new) }
         ensures kept { is_err result ≡ true → self.new ≡ self.old }
     {
         self.admit(Word::Name, &[r, s])?;
@@ -59,7 +59,7 @@ impl<S: Store> Workspace<S> {
 
     // Register r holds the value in the field that s names.
     pub(crate) fn fetch(&mut self, r: u32, s: u32) -> Result<(), WorkspaceFault>
-        ensures exact { Exact (view memory self.old) (rule_fetch r s) (answered nothing result) (view memory self.new) }
+        ensures exact { Exact (view S.memory self.old) (rule_fetch r s) (answered nothing result) (view S.memory self.new) }
         ensures kept { is_err result ≡ true → self.new ≡ self.old }
     {
         self.admit(Word::Fetch, &[r, s])?;
@@ -71,7 +71,7 @@ impl<S: Store> Workspace<S> {
 
     // The field that r names holds the value of s.
     pub(crate) fn store(&mut self, r: u32, s: u32) -> Result<(), WorkspaceFault>
-        ensures exact { Exact (view memory self.old) (rule_store r s) (answered nothing result) (view memory self.new) }
+        ensures exact { Exact (view S.memory self.old) (rule_store r s) (answered nothing result) (view S.memory self.new) }
         ensures kept { is_err result ≡ true → self.new ≡ self.old }
     {
         self.admit(Word::Store, &[r, s])?;

@@ -28,7 +28,7 @@ fn widened(z: i32) -> i64
 impl<S: Store> Workspace<S> {
     // T of what register r holds, then its length, number, field count or field number.
     pub(crate) fn kind(&self, r: u32) -> Result<(u32, i64), WorkspaceFault>
-        ensures { Exact (view memory self.now) (rule_kind r) (answered pair result) (view memory self.now) }
+        ensures { Exact (view S.memory self.now) (rule_kind r) (answered pair result) (view S.memory self.now) }
     {
         self.admit(Word::Kind, &[r])?;
         match decoded(self.registers[r as usize]) {
@@ -56,8 +56,8 @@ impl<S: Store> Workspace<S> {
 
     // Writes the characters of the string in register r to the start of the buffer, and gives their count.
     pub(crate) fn read(&self, r: u32, buffer: &mut [u8]) -> Result<u32, WorkspaceFault>
-        ensures exact { Exact (view memory self.now) (rule_read r (length buffer.old)) (written result buffer.new) (view memory self.now) }
-        ensures rest { Leaves (view memory self.now) result buffer.old buffer.new }
+        ensures exact { Exact (view S.memory self.now) (rule_read r (length buffer.old)) (written result buffer.new) (view S.memory self.now) }
+        ensures rest { Leaves (view S.memory self.now) result buffer.old buffer.new }
     {
         self.admit(Word::Read, &[r])?;
         match decoded(self.registers[r as usize]) {

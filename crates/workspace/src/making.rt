@@ -33,7 +33,7 @@ impl<S: Store> Workspace<S> {
         register: u32,
         work: &[u32],
     ) -> Result<(), WorkspaceFault>
-        ensures { MatchResult result (λ _. (memory self.now.cells).figures.cells ≤ length work.now) (λ f. (length work.now < (memory self.now.cells).figures.cells) × (f ≡ record { cause = ShortWork; call = call; register = register })) }
+        ensures { MatchResult result (λ _. (S.memory self.now.cells).figures.cells ≤ length work.now) (λ f. (length work.now < (S.memory self.now.cells).figures.cells) × (f ≡ record { cause = ShortWork; call = call; register = register })) }
     {
         if work.len() < self.cells.cells() as usize {
             return Err(WorkspaceFault {
@@ -47,8 +47,8 @@ impl<S: Store> Workspace<S> {
 
     // Makes room for `need` cells, and gives the first of them.
     pub(crate) fn room(&mut self, need: u32, work: &mut [u32]) -> Result<u32, HeapFault>
-        ensures { (m : Model) (a : Arena) → Shown m a (view memory self.old) → (memory self.old.cells).figures.cells ≤ length work.old →
-            RoomOf m a (view memory self.old) need (view memory self.new) result }
+        ensures { (m : Model) (a : Arena) → Shown m a (view S.memory self.old) → (S.memory self.old.cells).figures.cells ≤ length work.old →
+            RoomOf m a (view S.memory self.old) need (view S.memory self.new) result }
     {
         let State::Opened(bins, next) = self.state else {
             return Err(HeapFault::Unlawful(1, 0));
@@ -85,9 +85,9 @@ impl<S: Store> Workspace<S> {
         work: &mut [u32],
     ) -> Result<(), HeapFault>
         requires { r < 32 }
-        ensures { (m : Model) (a : Arena) → Shown m a (view memory self.old) → (memory self.old.cells).figures.cells ≤ length work.old →
+        ensures { (m : Model) (a : Arena) → Shown m a (view S.memory self.old) → (S.memory self.old.cells).figures.cells ≤ length work.old →
             1 ≤ n → n ≤ 4096 → 16 ≤ t → t ≤ 255 →
-            Grows m a (view memory self.old) (n + 1) (put_block m r n t) (λ b. arena_with_block m b n) (view memory self.new) result }
+            Grows m a (view S.memory self.old) (n + 1) (put_block m r n t) (λ b. arena_with_block m b n) (view S.memory self.new) result }
     {
         let next = self.room(n.saturating_add(1), work)?;
         let end = make_block(&mut self.cells, next, n)?;
@@ -105,8 +105,8 @@ impl<S: Store> Workspace<S> {
         t: u32,
         work: &mut [u32],
     ) -> Result<(), WorkspaceFault>
-        ensures exact { ExactWith (view memory self.old) (length work.old) (rule_make r n t) (answered nothing result) (view memory self.new) }
-        ensures kept { Untouched (view memory self.old) result (self.new ≡ self.old) (work.new ≡ work.old) }
+        ensures exact { ExactWith (view S.memory self.old) (length work.old) (rule_make r n t) (answered nothing result) (view S.memory self.new) }
+        ensures kept { Untouched (view S.memory self.old) result (self.new ≡ self.old) (work.new ≡ work.old) }
     {
         self.admit(Word::Make, &[r])?;
         in_call(fit_block(n, t), Word::Make, r)?;
@@ -117,8 +117,8 @@ impl<S: Store> Workspace<S> {
 
     // Regenerates, and gives the count of the free cells if they are at least `need`.
     pub(crate) fn regain(&mut self, need: u32, work: &mut [u32]) -> Result<u32, HeapFault>
-        ensures { (m : Model) (a : Arena) → Shown m a (view memory self.old) → (memory self.old.cells).figures.cells ≤ length work.old →
-            Regains m a (view memory self.old) need (view memory self.new) result }
+        ensures { (m : Model) (a : Arena) → Shown m a (view S.memory self.old) → (S.memory self.old.cells).figures.cells ≤ length work.old →
+            Regains m a (view S.memory self.old) need (view S.memory self.new) result }
     {
         let State::Opened(bins, next) = self.state else {
             return Err(HeapFault::Unlawful(1, 0));
@@ -134,8 +134,8 @@ impl<S: Store> Workspace<S> {
 
     // Regenerates, and gives the count of the free cells if they are at least n.
     pub(crate) fn collect(&mut self, n: u32, work: &mut [u32]) -> Result<u32, WorkspaceFault>
-        ensures exact { ExactWith (view memory self.old) (length work.old) (rule_collect n) (answered count result) (view memory self.new) }
-        ensures kept { Untouched (view memory self.old) result (self.new ≡ self.old) (work.new ≡ work.old) }
+        ensures exact { ExactWith (view S.memory self.old) (length work.old) (rule_collect n) (answered count result) (view S.memory self.new) }
+        ensures kept { Untouched (view S.memory self.old) result (self.new ≡ self.old) (work.new ≡ work.old) }
     {
         self.admit(Word::Collect, &[])?;
         self.take_list(Word::Collect, 0, work)?;
@@ -152,11 +152,11 @@ impl<S: Store> Workspace<S> {
         work: &mut [u32],
     ) -> Result<(), HeapFault>
         requires { r < 32 }
-        ensures { (m : Model) (a : Arena) → Shown m a (view memory self.old) → (memory self.old.cells).figures.cells ≤ length work.old →
-            bins ≡ a.bins → 1 ≤ length text.now → length text.now ≤ 1024 → Takes (memory self.old.cells) text.now →
+        ensures { (m : Model) (a : Arena) → Shown m a (view S.memory self.old) → (S.memory self.old.cells).figures.cells ≤ length work.old →
+            bins ≡ a.bins → 1 ≤ length text.now → length text.now ≤ 1024 → Takes (S.memory self.old.cells) text.now →
             (In (string text.now) a.order → ⊥) →
-            Grows m a (view memory self.old) (string_cells (memory self.old.cells).figures.places (length text.now))
-            (put m r (Value.text text.now)) (λ b. arena_with_text (memory self.old.cells).figures.places b text.now) (view memory self.new) result }
+            Grows m a (view S.memory self.old) (string_cells (S.memory self.old.cells).figures.places (length text.now))
+            (put m r (Value.text text.now)) (λ b. arena_with_text (S.memory self.old.cells).figures.places b text.now) (view S.memory self.new) result }
     {
         if text.len() > LONGEST_TEXT {
             return Err(HeapFault::LongText);
@@ -178,9 +178,9 @@ impl<S: Store> Workspace<S> {
         work: &mut [u32],
     ) -> Result<(), HeapFault>
         requires { r < 32 }
-        ensures { (m : Model) (a : Arena) → Shown m a (view memory self.old) → (memory self.old.cells).figures.cells ≤ length work.old →
-            1 ≤ length text.now → length text.now ≤ 1024 → Takes (memory self.old.cells) text.now →
-            Enters m a (view memory self.old) r text.now (view memory self.new) result }
+        ensures { (m : Model) (a : Arena) → Shown m a (view S.memory self.old) → (S.memory self.old.cells).figures.cells ≤ length work.old →
+            1 ≤ length text.now → length text.now ≤ 1024 → Takes (S.memory self.old.cells) text.now →
+            Enters m a (view S.memory self.old) r text.now (view S.memory self.new) result }
     {
         let State::Opened(bins, _) = self.state else {
             return Err(HeapFault::Unlawful(1, 0));
@@ -203,8 +203,8 @@ impl<S: Store> Workspace<S> {
         bytes: &[u8],
         work: &mut [u32],
     ) -> Result<(), WorkspaceFault>
-        ensures exact { ExactWith (view memory self.old) (length work.old) (rule_text r bytes.now) (answered nothing result) (view memory self.new) }
-        ensures kept { Untouched (view memory self.old) result (self.new ≡ self.old) (work.new ≡ work.old) }
+        ensures exact { ExactWith (view S.memory self.old) (length work.old) (rule_text r bytes.now) (answered nothing result) (view S.memory self.new) }
+        ensures kept { Untouched (view S.memory self.old) result (self.new ≡ self.old) (work.new ≡ work.old) }
     {
         self.admit(Word::Text, &[r])?;
         in_call(fit_text(&self.cells, bytes), Word::Text, r)?;

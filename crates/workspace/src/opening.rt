@@ -40,7 +40,7 @@ impl<S: Store> Workspace<S> {
 
     // Opens a closed workspace with this many bins, all empty.
     pub(crate) fn open(&mut self, bins: u32) -> Result<(), WorkspaceFault>
-        ensures opens { Opens (view memory self.old) bins (answered nothing result) (view memory self.new) }
+        ensures opens { Opens (view S.memory self.old) bins (answered nothing result) (view S.memory self.new) }
         ensures kept { is_err result ≡ true → self.new ≡ self.old }
     {
         if let State::Opened(_, _) = self.state {

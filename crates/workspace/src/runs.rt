@@ -56,7 +56,7 @@ fn paired(r: Result<(u32, i64), WorkspaceFault>) -> Entry
 impl<S: Store> Workspace<S> {
     // The call read with a buffer of n bytes.
     pub(crate) fn read_entry(&self, heap: Global, r: u32, n: u32) -> Result<Entry, AllocError>
-        ensures { IfOk result (λ e. Exact (view memory self.now) (rule_read r n) (entry e) (view memory self.now)) }
+        ensures { IfOk result (λ e. Exact (view S.memory self.now) (rule_read r n) (entry e) (view S.memory self.now)) }
     {
         let mut buffer = vec![in heap; 0u8; n as usize]?;
         match self.read(r, &mut buffer) {
@@ -75,7 +75,7 @@ impl<S: Store> Workspace<S> {
         request: Request,
         work: &mut [u32],
     ) -> Result<Entry, AllocError>
-        ensures { IfOk result (λ e. Performs (view memory self.old) (length work.old) (meant request.entry) (entry e) (view memory self.new)) }
+        ensures { IfOk result (λ e. Performs (view S.memory self.old) (length work.old) (meant request.entry) (entry e) (view S.memory self.new)) }
     {
         match request {
             Request::Null(r) => Ok(done(self.null(r))),
@@ -101,8 +101,8 @@ impl<S: Store> Workspace<S> {
         calls: &[Request],
         work: &mut [u32],
     ) -> Result<Vec<Entry>, AllocError>
-        ensures { (m : Model) (a : Arena) → Shown m a (view memory self.old) → (memory self.old.cells).figures.cells ≤ length work.old →
-            IfOk result (λ log. Logged (view memory self.old) m a (calls_of calls.now) (entries log.items) (view memory self.new)) }
+        ensures { (m : Model) (a : Arena) → Shown m a (view S.memory self.old) → (S.memory self.old.cells).figures.cells ≤ length work.old →
+            IfOk result (λ log. Logged (view S.memory self.old) m a (calls_of calls.now) (entries log.items) (view S.memory self.new)) }
     {
         let mut log = Vec::new(heap);
         for call in calls {

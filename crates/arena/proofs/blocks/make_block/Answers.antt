@@ -5,7 +5,7 @@ use Rattle.arena.proofs.blocks.make_block.Goals as goal
 pub returns : goal.returns
 returns g c = record {
   made = λ m a sh e n1 n2 room.
-      let w = c.write-block.ensures.made (omega arith) room in
+      let w = c.write_block.ensures.made (omega arith) room in
       (w.0, made_shown m a _ (g.met.S.Store.sound c.args.store.now) sh _ _ e n1 n2 room _ w.1);
-  full = c.write-block.ensures.full;
+  full = c.write_block.ensures.full;
 }

@@ -8,10 +8,10 @@ pub returns : goal.returns
 returns g c = record {
   made = λ few room.
       let n = g.met.S.Store.sound c.args.store.now in
-      let te = ok_same _ _ (c.in-ok-title.ensures (block_small _ n _ _ few room)) in
+      let te = ok_same _ _ (c.in_ok-title.ensures (block_small _ n _ _ few room)) in
       let f = block_title_fits _ n _ _ few room _ te in
-      let w = (descriptor_written _ _ _ _ c.set-descriptor.result c.set-descriptor.ensures.answer f.0 f.1).1 in
-      let ue = c.null-value.ensures in
+      let w = (descriptor_written _ _ _ _ c.set_descriptor.result c.set_descriptor.ensures.answer f.0 f.1).1 in
+      let ue = c.null_value.ensures in
       let v = fields_fit _ n _ _ few room _ te _ ue _ w in
       (refl, block_made _ n _ _ few room _ te _ ue _ w _ (c.fill.ensures v.0 v.1).1);
   full = λ l. absurd (omega arith);

@@ -7,22 +7,22 @@ use Rattle.arena.proofs.entering.spell.Goals as goal
 pub loop-j-init : goal.loop-j-init
 loop-j-init g c b cd = writing_none _ _ _ _
 
-pub returns-in-err-set-character : goal.returns-in-err-set-character
-returns-in-err-set-character g c b cd =
+pub returns-in_err-set_character : goal.returns-in_err-set_character
+returns-in_err-set_character g c b cd =
     let s = c.loop-j.invariant b cd in
     let n = g.met.S.Store.sound c.args.store.now in
     let f = writing_fits _ _ _ _ c.loop-j.j _ s n.one_place (rows_below _ _ _ _ c.places-places.ensures c.loop-j-test.true) _ c.places-places.ensures _
-    c.lowest-lowest.ensures _ c.code-for.ensures b n.ordered cd in
-    ok_not_err (character_written _ _ _ _ _ c.set-character.result c.set-character.ensures.answer f.0 f.1 f.2).0 c.in-err-set-character.was
+    c.lowest-lowest.ensures _ c.code_for.ensures b n.ordered cd in
+    ok_not_err (character_written _ _ _ _ _ c.set_character.result c.set_character.ensures.answer f.0 f.1 f.2).0 c.in_err-set_character.was
 
 pub loop-j-preserved : goal.loop-j-preserved
 loop-j-preserved g c b cd =
     let s = c.loop-j.invariant b cd in
     let n = g.met.S.Store.sound c.args.store.now in
     let l = rows_below _ _ _ _ c.places-places.ensures c.loop-j-test.true in
-    let f = writing_fits _ _ _ _ c.loop-j.j _ s n.one_place l _ c.places-places.ensures _ c.lowest-lowest.ensures _ c.code-for.ensures b n.ordered cd in
-    writing_more _ _ _ _ c.loop-j.j _ s n.one_place l _ c.places-places.ensures _ c.lowest-lowest.ensures _ c.code-for.ensures _
-    (character_written _ _ _ _ _ c.set-character.result c.set-character.ensures.answer f.0 f.1 f.2).1
+    let f = writing_fits _ _ _ _ c.loop-j.j _ s n.one_place l _ c.places-places.ensures _ c.lowest-lowest.ensures _ c.code_for.ensures b n.ordered cd in
+    writing_more _ _ _ _ c.loop-j.j _ s n.one_place l _ c.places-places.ensures _ c.lowest-lowest.ensures _ c.code_for.ensures _
+    (character_written _ _ _ _ _ c.set_character.result c.set_character.ensures.answer f.0 f.1 f.2).1
 
 pub returns : goal.returns
 returns g c b cd =

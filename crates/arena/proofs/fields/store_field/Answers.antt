@@ -6,12 +6,12 @@ use Rattle.arena.proofs.Readings.{cell_below}
 use Rattle.arena.proofs.Stores.{field_stored}
 use Rattle.arena.proofs.fields.store_field.Goals as goal
 
-pub returns-in-err-set-descriptor : goal.returns-in-err-set-descriptor
-returns-in-err-set-descriptor g c = record {
+pub returns-in_err-set_descriptor : goal.returns-in_err-set_descriptor
+returns-in_err-set_descriptor g c = record {
   stored = λ m a x k v f cd pr.
       let n = g.met.S.Store.sound c.args.store.now in
-      ok_not_err (descriptor_written _ _ _ _ c.set-descriptor.result c.set-descriptor.ensures.answer (cell_below m a _ x k _ f) (coded_fits m a _ v _ n cd pr)).0
-      c.in-err-set-descriptor.was;
+      ok_not_err (descriptor_written _ _ _ _ c.set_descriptor.result c.set_descriptor.ensures.answer (cell_below m a _ x k _ f) (coded_fits m a _ v _ n cd pr)).0
+      c.in_err-set_descriptor.was;
   kept = search rules;
 }
 
@@ -21,7 +21,7 @@ returns g c = record {
       let n = g.met.S.Store.sound c.args.store.now in (
         refl,
         field_stored m a _ n x k _ f v _ cd pr _
-            (descriptor_written _ _ _ _ c.set-descriptor.result c.set-descriptor.ensures.answer (cell_below m a _ x k _ f) (coded_fits m a _ v _ n cd pr)).1,
+            (descriptor_written _ _ _ _ c.set_descriptor.result c.set_descriptor.ensures.answer (cell_below m a _ x k _ f) (coded_fits m a _ v _ n cd pr)).1,
       );
   kept = tt;
 }

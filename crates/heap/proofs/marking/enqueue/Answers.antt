@@ -8,8 +8,8 @@ use Rattle.heap.proofs.marking.enqueue.Goals as goal
 
 pub returns-then-tail-work : goal.returns-then-tail-work
 returns-then-tail-work g c m ts a h =
-    let read = c.in-ok-t.ensures.1 in
-    let e : c.in-ok-t.t ≡ (g.S.Store.memory c.args.store.now).descriptor c.args.title = cc in
+    let read = c.in_ok-t.ensures.1 in
+    let e : c.in_ok-t.t ≡ (g.S.Store.memory c.args.store.now).descriptor c.args.title = cc in
     let z = subst (λ (x : Descriptor). bit_and x.flags 8 ≡ 0) e c.if-t-ne0.false in
     let l = room_left m ts _ _ _ a c.args.title h (unmarked m ts _ _ _ a c.args.title h z).0 in
     absurd (omega arith)
@@ -17,13 +17,13 @@ returns-then-tail-work g c m ts a h =
 pub returns : goal.returns
 returns g c m ts a h =
     let b = below_now m ts _ _ _ a c.args.title h in
-    let read = c.in-ok-t.ensures.1 in
-    let e : c.in-ok-t.t ≡ (g.S.Store.memory c.args.store.now).descriptor c.args.title = cc in
+    let read = c.in_ok-t.ensures.1 in
+    let e : c.in_ok-t.t ≡ (g.S.Store.memory c.args.store.now).descriptor c.args.title = cc in
     let z = subst (λ (x : Descriptor). bit_and x.flags 8 ≡ 0) e c.if-t-ne0.false in
-    let f = fits_mark m ts _ _ _ a c.args.title c.in-ok-t.t h e c.if-t-ne0.false in
+    let f = fits_mark m ts _ _ _ a c.args.title c.in_ok-t.t h e c.if-t-ne0.false in
     let k = c.marked.ensures ∙ ap with_mark e in
     let s = (g.met.S.Store.sound c.args.store.now).kinds c.args.title b in
     let fl : c.marked.result.flags ≤ 31 = rw c.marked.ensures f in
     let ki : c.marked.result.kind ≤ (g.S.Store.memory c.args.store.now).figures.largest = rw (c.marked.ensures, e) s in
-    let w = (descriptor_written _ _ _ _ c.set-descriptor.result c.set-descriptor.ensures.answer b (fl, ki)).1 in
+    let w = (descriptor_written _ _ _ _ c.set_descriptor.result c.set_descriptor.ensures.answer b (fl, ki)).1 in
     (_, refl, added_new m ts _ _ _ a c.args.title _ h z c.if-tail-work.false (rw k at w))

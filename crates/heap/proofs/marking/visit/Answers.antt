@@ -8,22 +8,22 @@ use Rattle.heap.proofs.marking.visit.Goals as goal
 no_flag : (f : ℕ) → f ≡ 0 → bit_and f 16 ≢ 0 → ⊥
 no_flag f e n = n (rw e refl)
 
-pub returns-in-err-title : goal.returns-in-err-title
-returns-in-err-title g c m ts a v =
+pub returns-in_err-title : goal.returns-in_err-title
+returns-in_err-title g c m ts a v =
     elim v [
-      | plain e ↦ absurd (no_flag _ e (c.is-pointer.ensures.yes c.if-not-is-pointer.false))
+      | plain e ↦ absurd (no_flag _ e (c.is_pointer.ensures.yes c.if-not-is_pointer.false))
       | pointer q p ↦
-          let ce = ok_same _ _ (c.in-ok-cell.ensures (q + p.distance) p.value) in
-          ok_not_err (c.title-of.ensures q p.distance ce (rw ce (aim_below m ts _ _ _ a _ q p)) (back_now m ts _ _ _ a _ q p)) c.in-err-title.was
+          let ce = ok_same _ _ (c.in_ok-cell.ensures (q + p.distance) p.value) in
+          ok_not_err (c.title_of.ensures q p.distance ce (rw ce (aim_below m ts _ _ _ a _ q p)) (back_now m ts _ _ _ a _ q p)) c.in_err-title.was
     ]
 
 pub returns : goal.returns
 returns g c m ts a v =
     elim v [
-      | plain e ↦ absurd (no_flag _ e (c.is-pointer.ensures.yes c.if-not-is-pointer.false))
+      | plain e ↦ absurd (no_flag _ e (c.is_pointer.ensures.yes c.if-not-is_pointer.false))
       | pointer q p ↦
-          let ce = ok_same _ _ (c.in-ok-cell.ensures (q + p.distance) p.value) in
-          let te = ap (λ (x : ℕ × ℕ). x.0) (ok_same _ _ (c.in-ok-title.ensures q p.distance ce (rw ce (aim_below m ts _ _ _ a _ q p)) (back_now m ts _ _ _ a _ q p))) in
+          let ce = ok_same _ _ (c.in_ok-cell.ensures (q + p.distance) p.value) in
+          let te = ap (λ (x : ℕ × ℕ). x.0) (ok_same _ _ (c.in_ok-title.ensures q p.distance ce (rw ce (aim_below m ts _ _ _ a _ q p)) (back_now m ts _ _ _ a _ q p))) in
           let n = c.enqueue.ensures m ts a (rw te p.title) in
           (n.0, n.1, visited_one m ts _ _ _ a _ q _ _ _ _ p te n.2)
     ]

@@ -7,32 +7,32 @@ use Rattle.heap.proofs.moving.forward.Goals as goal
 no_flag : {A : Type 0} (f : ℕ) → f ≡ 0 → bit_and f 16 ≢ 0 → A
 no_flag f e n = absurd (n (rw e refl))
 
-pub returns-in-err-title : goal.returns-in-err-title
-returns-in-err-title g c =
+pub returns-in_err-title : goal.returns-in_err-title
+returns-in_err-title g c =
     record {
-      plain = λ e. no_flag _ e (c.is-pointer.ensures.yes c.if-not-is-pointer.false);
+      plain = λ e. no_flag _ e (c.is_pointer.ensures.yes c.if-not-is_pointer.false);
       moved = λ q k h.
-          let ce = ok_same _ _ (c.in-ok-cell.ensures (q + k) h.value) in
-          ok_not_err (c.title-of.ensures q k ce (rw ce h.within) h.back) c.in-err-title.was;
+          let ce = ok_same _ _ (c.in_ok-cell.ensures (q + k) h.value) in
+          ok_not_err (c.title_of.ensures q k ce (rw ce h.within) h.back) c.in_err-title.was;
     }
 
 pub returns-then-title-work : goal.returns-then-title-work
 returns-then-title-work g c =
     record {
-      plain = λ e. no_flag _ e (c.is-pointer.ensures.yes c.if-not-is-pointer.false);
+      plain = λ e. no_flag _ e (c.is_pointer.ensures.yes c.if-not-is_pointer.false);
       moved = λ q k h.
-          let ce = ok_same _ _ (c.in-ok-cell.ensures (q + k) h.value) in
-          let te = ap (λ (x : ℕ × ℕ). x.0) (ok_same _ _ (c.in-ok-title.ensures q k ce (rw ce h.within) h.back)) in
+          let ce = ok_same _ _ (c.in_ok-cell.ensures (q + k) h.value) in
+          let te = ap (λ (x : ℕ × ℕ). x.0) (ok_same _ _ (c.in_ok-title.ensures q k ce (rw ce h.within) h.back)) in
           absurd (let l = h.listed in omega arith);
     }
 
-pub returns-then-to-gt-MOST-CELLS : goal.returns-then-to-gt-MOST-CELLS
-returns-then-to-gt-MOST-CELLS g c =
+pub returns-then-to-gt-MOST_CELLS : goal.returns-then-to-gt-MOST_CELLS
+returns-then-to-gt-MOST_CELLS g c =
     record {
-      plain = λ e. no_flag _ e (c.is-pointer.ensures.yes c.if-not-is-pointer.false);
+      plain = λ e. no_flag _ e (c.is_pointer.ensures.yes c.if-not-is_pointer.false);
       moved = λ q k h.
-          let ce = ok_same _ _ (c.in-ok-cell.ensures (q + k) h.value) in
-          let pe = ok_same _ _ (c.in-ok-title.ensures q k ce (rw ce h.within) h.back) in
+          let ce = ok_same _ _ (c.in_ok-cell.ensures (q + k) h.value) in
+          let pe = ok_same _ _ (c.in_ok-title.ensures q k ce (rw ce h.within) h.back) in
           let te = ap (λ (x : ℕ × ℕ). x.0) pe in
           let ke = ap (λ (x : ℕ × ℕ). x.1) pe in
           let we = ap (λ (i : ℕ). get_or c.args.work.now i 0) te in
@@ -42,12 +42,12 @@ returns-then-to-gt-MOST-CELLS g c =
 pub returns : goal.returns
 returns g c =
     record {
-      plain = λ e. no_flag _ e (c.is-pointer.ensures.yes c.if-not-is-pointer.false);
+      plain = λ e. no_flag _ e (c.is_pointer.ensures.yes c.if-not-is_pointer.false);
       moved = λ q k h.
-          let ce = ok_same _ _ (c.in-ok-cell.ensures (q + k) h.value) in
-          let pe = ok_same _ _ (c.in-ok-title.ensures q k ce (rw ce h.within) h.back) in
+          let ce = ok_same _ _ (c.in_ok-cell.ensures (q + k) h.value) in
+          let pe = ok_same _ _ (c.in_ok-title.ensures q k ce (rw ce h.within) h.back) in
           let te = ap (λ (x : ℕ × ℕ). x.0) pe in
           let ke = ap (λ (x : ℕ × ℕ). x.1) pe in
           let we = ap (λ (i : ℕ). get_or c.args.work.now i 0) te in
-          c.pointer-at.ensures (let s = h.small in omega arith) ∙ ap (λ (i : ℕ). Ok (desc (pos i) 16 c.args.d.kind)) (omega arith);
+          c.pointer_at.ensures (let s = h.small in omega arith) ∙ ap (λ (i : ℕ). Ok (desc (pos i) 16 c.args.d.kind)) (omega arith);
     }

@@ -6,35 +6,35 @@ use Rattle.heap.proofs.Values.{read_field, forward_gives, fits_new, relocating_m
 use Rattle.heap.proofs.moving.relocate_block.Goals as goal
 use Rattle.heap.proofs.moving.relocate_block.Goals.{then-is-pointer+in-ok-moved+in-ok-set-descriptor, else-is-pointer}
 
-pub returns-in-err-moved : goal.returns-in-err-moved
-returns-in-err-moved g c b re =
+pub returns-in_err-moved : goal.returns-in_err-moved
+returns-in_err-moved g c b re =
     let s = c.loop-k.invariant b re in
     let e = ap (λ (f : Figures). f.cells) s.figures in
-    let de = read_field _ _ _ _ _ s _ c.in-ok-d.ensures.1 in
+    let de = read_field _ _ _ _ _ s _ c.in_ok-d.ensures.1 in
     let w = forward_gives _ _ _ _ _ s _ de _ c.forward.ensures.plain c.forward.ensures.moved (re c.loop-k.k c.loop-k-test.true) in
-    ok_not_err w.1 c.in-err-moved.was
+    ok_not_err w.1 c.in_err-moved.was
 
-pub returns-in-err-set-descriptor : goal.returns-in-err-set-descriptor
-returns-in-err-set-descriptor g c b re =
+pub returns-in_err-set_descriptor : goal.returns-in_err-set_descriptor
+returns-in_err-set_descriptor g c b re =
     let s = c.loop-k.invariant b re in
     let e = ap (λ (f : Figures). f.cells) s.figures in
-    let de = read_field _ _ _ _ _ s _ c.in-ok-d.ensures.1 in
-    let w = forward_gives _ _ _ _ _ s _ de _ c.in-ok-moved.ensures.plain c.in-ok-moved.ensures.moved (re c.loop-k.k c.loop-k-test.true) in
+    let de = read_field _ _ _ _ _ s _ c.in_ok-d.ensures.1 in
+    let w = forward_gives _ _ _ _ _ s _ de _ c.in_ok-moved.ensures.plain c.in_ok-moved.ensures.moved (re c.loop-k.k c.loop-k-test.true) in
     let me = ok_same _ _ w.1 in
     let f = fits_new _ _ _ _ _ s _ de c.args.n _ (rw (← me) at w.2) (g.met.S.Store.sound c.loop-k.store) b c.loop-k-test.true in
-    ok_not_err (descriptor_written _ _ _ _ c.set-descriptor.result c.set-descriptor.ensures.answer f.0 f.1).0 c.in-err-set-descriptor.was
+    ok_not_err (descriptor_written _ _ _ _ c.set_descriptor.result c.set_descriptor.ensures.answer f.0 f.1).0 c.in_err-set_descriptor.was
 
 pub loop-k-preserved : goal.loop-k-preserved
 loop-k-preserved g c b re =
     let s = c.loop-k.invariant b re in
-    let de = read_field _ _ _ _ _ s _ c.in-ok-d.ensures.1 in
-    elim c.if-is-pointer.branch [
+    let de = read_field _ _ _ _ _ s _ c.in_ok-d.ensures.1 in
+    elim c.if-is_pointer.branch [
       | then-is-pointer+in-ok-moved+in-ok-set-descriptor y ↦
-          let w = forward_gives _ _ _ _ _ s _ de _ y.in-ok-moved.ensures.plain y.in-ok-moved.ensures.moved (re c.loop-k.k c.loop-k-test.true) in
+          let w = forward_gives _ _ _ _ _ s _ de _ y.in_ok-moved.ensures.plain y.in_ok-moved.ensures.moved (re c.loop-k.k c.loop-k-test.true) in
           let ca = rw (← (ok_same _ _ w.1)) at w.2 in
           let f = fits_new _ _ _ _ _ s _ de c.args.n _ ca (g.met.S.Store.sound c.loop-k.store) b c.loop-k-test.true in
           relocating_at _ _ _ _ _ _ (relocating_more _ _ _ _ _ s _ _ _ de ca.flags ca.goes
-          (descriptor_written _ _ _ _ y.set-descriptor.result y.set-descriptor.ensures.answer f.0 f.1).1) (ap g.S.Store.memory y.store-is)
+          (descriptor_written _ _ _ _ y.set_descriptor.result y.set_descriptor.ensures.answer f.0 f.1).1) (ap g.S.Store.memory y.store-is)
       | else-is-pointer y ↦
-          relocating_same _ _ _ _ _ s _ _ de (c.is-pointer.ensures.no y.if-is-pointer.false) (re c.loop-k.k c.loop-k-test.true) (ap g.S.Store.memory y.store-is)
+          relocating_same _ _ _ _ _ s _ _ de (c.is_pointer.ensures.no y.if-is_pointer.false) (re c.loop-k.k c.loop-k-test.true) (ap g.S.Store.memory y.store-is)
     ]

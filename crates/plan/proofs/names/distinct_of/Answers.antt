@@ -10,13 +10,13 @@ loop-name-preserved c =
     let ns = c.args.names.now in
     let i = c.loop-name.name-index in
     let seen = vec_items c.loop-name.seen in
-    let e : c.stands-in.result ≡ has_text (texts (vec_items c.loop-name.seen)) (get_or c.args.names.now c.loop-name.name-index no_name).now =
-    c.stands-in.ensures ∙ ap (λ (ss : List (Bor (List ℕ))). has_text (texts ss) (get_or c.args.names.now c.loop-name.name-index no_name).now) c.deref.ensures.value in
-    elim c.if-not-stands-in.branch [
+    let e : c.stands_in.result ≡ has_text (texts (vec_items c.loop-name.seen)) (get_or c.args.names.now c.loop-name.name-index no_name).now =
+    c.stands_in.ensures ∙ ap (λ (ss : List (Bor (List ℕ))). has_text (texts ss) (get_or c.args.names.now c.loop-name.name-index no_name).now) c.deref.ensures.value in
+    elim c.if-not-stands_in.branch [
       | then-not-stands-in+in-ok-push w ↦ ap (λ v. texts (vec_items v)) w.seen-is ∙
-          distinct_new ns i no_name seen c.loop-name.invariant c.loop-name-test.true c.stands-in.result e w.if-not-stands-in.true (vec_items w.push.new.self) w.in-ok-push.ensures.items
+          distinct_new ns i no_name seen c.loop-name.invariant c.loop-name-test.true c.stands_in.result e w.if-not-stands_in.true (vec_items w.push.new.self) w.in_ok-push.ensures.items
       | else-not-stands-in w ↦ ap (λ v. texts (vec_items v)) w.seen-is ∙
-          distinct_seen ns i no_name seen c.loop-name.invariant c.loop-name-test.true c.stands-in.result e w.if-not-stands-in.false
+          distinct_seen ns i no_name seen c.loop-name.invariant c.loop-name-test.true c.stands_in.result e w.if-not-stands_in.false
     ]
 
 pub returns : goal.returns

@@ -5,9 +5,9 @@ use Rattle.plan.specs.Names.{texts}
 use Rattle.plan.proofs.Lines.{kept_some}
 use Rattle.plan.proofs.names.keep.Goals as goal
 
-pub returns-in-ok-push : goal.returns-in-ok-push
-returns-in-ok-push c =
+pub returns-in_ok-push : goal.returns-in_ok-push
+returns-in_ok-push c =
     let some : 0 < length c.args.line.now = search rules in
-    ap texts c.in-ok-push.ensures.items
+    ap texts c.in_ok-push.ensures.items
     ∙ map_push (λ t. t.now) (vec_items c.args.found.now) c.args.line
     ∙ ap (λ (k : List Text). texts (vec_items c.args.found.now) ++ k) (sym (kept_some c.args.line.now some))

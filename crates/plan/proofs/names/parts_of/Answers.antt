@@ -12,7 +12,7 @@ loop-i-preserved c =
     let found = texts (vec_items c.loop-i.found) in
     elim c.if-input-i.branch [
       | then-input-i+in-ok-keep w ↦ rw (w.found-is, w.start-is)
-          (walk_line c.args.end xs found c.loop-i.start c.loop-i.i c.loop-i.invariant c.loop-i-test.true (texts (vec_items w.keep.new.found)) w.if-input-i.true w.in-ok-keep.ensures)
+          (walk_line c.args.end xs found c.loop-i.start c.loop-i.i c.loop-i.invariant c.loop-i-test.true (texts (vec_items w.keep.new.found)) w.if-input-i.true w.in_ok-keep.ensures)
       | else-input-i w ↦ rw (w.found-is, w.start-is)
           (walk_byte c.args.end xs found c.loop-i.start c.loop-i.i c.loop-i.invariant c.loop-i-test.true w.if-input-i.false)
     ]
@@ -22,4 +22,4 @@ returns c =
     let xs = c.args.input.now in
     let found = texts (vec_items c.loop-i.found) in
     walk_all c.args.end xs found c.loop-i.start c.loop-i.i c.loop-i.invariant c.loop-i-test.false (texts (vec_items c.keep-2.new.found))
-    (c.in-ok-keep-2.ensures ∙ ap (λ (t : List ℕ). found ++ kept t) (take_rest xs c.loop-i.start))
+    (c.in_ok-keep-2.ensures ∙ ap (λ (t : List ℕ). found ++ kept t) (take_rest xs c.loop-i.start))

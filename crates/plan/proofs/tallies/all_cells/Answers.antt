@@ -10,8 +10,8 @@ loop-name-preserved g c =
     let f = (g.S.Store.memory c.args.store.now).figures in
     let ns = c.args.names.now in
     let i = c.loop-name.name-index in
-    let here = c.unwrap-or-cells.ensures ∙ ap (λ o. unwrap_or o 0) c.cells-in.ensures ∙ value_cells f (get_or ns i no_name).now in
-    ap (λ (n : ℕ). n + c.unwrap-or-cells.result) c.loop-name.invariant
+    let here = c.unwrap_or-cells.ensures ∙ ap (λ o. unwrap_or o 0) c.cells_in.ensures ∙ value_cells f (get_or ns i no_name).now in
+    ap (λ (n : ℕ). n + c.unwrap_or-cells.result) c.loop-name.invariant
     ∙ ap (λ (n : ℕ). all_cells f (take i (texts ns)) + n) here
     ∙ sym (sum_more (name_cells f) ns i no_name c.loop-name-test.true)
 
@@ -25,10 +25,10 @@ returns g c =
       bound = omega (arith, c.loop-name.invariant, sum_small (name_cells f) 1028 (name_small f) (texts ns) i);
     }
 
-pub overflow-add-cells : goal.overflow-add-cells
-overflow-add-cells g c =
+pub overflow_add-cells : goal.overflow_add-cells
+overflow_add-cells g c =
     let f = (g.S.Store.memory c.args.store.now).figures in
     let ns = c.args.names.now in
     let i = c.loop-name.name-index in
-    let here = c.unwrap-or-cells.ensures ∙ ap (λ o. unwrap_or o 0) c.cells-in.ensures ∙ value_cells f (get_or ns i no_name).now in
+    let here = c.unwrap_or-cells.ensures ∙ ap (λ o. unwrap_or o 0) c.cells_in.ensures ∙ value_cells f (get_or ns i no_name).now in
     omega (arith, here, c.loop-name.invariant, name_small f (get_or ns i no_name).now, sum_small (name_cells f) 1028 (name_small f) (texts ns) i)

@@ -25,7 +25,7 @@ returns g c =
     let f = (g.S.Store.memory c.args.store.now).figures in
     c.loop-name.invariant ∙ sum_all (λ (t : Text). cond (holds f t) 1 0) c.args.names.now c.loop-name.name-index no_name c.loop-name-test.false
 
-pub overflow-add-count : goal.overflow-add-count
-overflow-add-count g c =
+pub overflow_add-count : goal.overflow_add-count
+overflow_add-count g c =
     let f = (g.S.Store.memory c.args.store.now).figures in
     omega (arith, c.loop-name.invariant, sum_small (λ (t : Text). cond (holds f t) 1 0) 1 (λ t. one_at_most (holds f t)) (texts c.args.names.now) c.loop-name.name-index)

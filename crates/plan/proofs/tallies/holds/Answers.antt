@@ -4,4 +4,4 @@ use Rattle.plan.proofs.tallies.holds.Goals as goal
 
 pub returns : goal.returns
 returns g c =
-    c.is-some.ensures ∙ ap is_some c.cells-in.ensures ∙ some_holds (g.S.Store.memory c.args.store.now).figures c.args.name.now
+    c.is_some.ensures ∙ ap is_some c.cells_in.ensures ∙ some_holds (g.S.Store.memory c.args.store.now).figures c.args.name.now

@@ -5,13 +5,13 @@ use Rattle.scan.specs.Taking.{ahead}
 use Rattle.scan.proofs.Taken.{broke, fitted, made_any}
 use Rattle.scan.proofs.reader.Reader.layout.Goals as goal
 
-pub returns-in-err-t : goal.returns-in-err-t
-returns-in-err-t c =
-    let p = err_from_is_err_and c.from-residual.result c.from-residual.ensures.1 in
-    rw (p.1, p.2) (record { picks = broke (λ (t : Tok). bind (word_of t) layout_of) (ahead c.args.self.now) c.in-err-t.field-0.0 c.in-err-t.ensures.took; shorter = tt })
+pub returns-in_err-t : goal.returns-in_err-t
+returns-in_err-t c =
+    let p = err_from_is_err_and c.from_residual.result c.from_residual.ensures.1 in
+    rw (p.1, p.2) (record { picks = broke (λ (t : Tok). bind (word_of t) layout_of) (ahead c.args.self.now) c.in_err-t.field-0.0 c.in_err-t.ensures.took; shorter = tt })
 
 pub returns : goal.returns
 returns c = record {
-  picks = fitted (λ (t : Tok). bind (word_of t) layout_of) (ahead c.args.self.now) c.in-ok-t.t c.token.new.self.line c.token.new.self.column c.token.new.self.rest.now c.layout-of.result c.ok-or.result c.in-ok-t.ensures.took c.layout-of.ensures c.ok-or.ensures.value;
-  shorter = made_any c.ok-or.result _ c.in-ok-t.ensures.shorter;
+  picks = fitted (λ (t : Tok). bind (word_of t) layout_of) (ahead c.args.self.now) c.in_ok-t.t c.token.new.self.line c.token.new.self.column c.token.new.self.rest.now c.layout_of.result c.ok_or.result c.in_ok-t.ensures.took c.layout_of.ensures c.ok_or.ensures.value;
+  shorter = made_any c.ok_or.result _ c.in_ok-t.ensures.shorter;
 }

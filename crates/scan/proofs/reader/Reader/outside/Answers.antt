@@ -3,14 +3,14 @@ use Rattle.scan.specs.Taking.{ahead, outside_of}
 use Rattle.scan.proofs.Taken.{broke, fitted, made_any}
 use Rattle.scan.proofs.reader.Reader.outside.Goals as goal
 
-pub returns-in-err-t : goal.returns-in-err-t
-returns-in-err-t c =
-    let p = err_from_is_err_and c.from-residual.result c.from-residual.ensures.1 in
-    rw (p.1, p.2) (record { picks = broke outside_of (ahead c.args.self.now) c.in-err-t.field-0.0 c.in-err-t.ensures.took; shorter = tt; eats = tt })
+pub returns-in_err-t : goal.returns-in_err-t
+returns-in_err-t c =
+    let p = err_from_is_err_and c.from_residual.result c.from_residual.ensures.1 in
+    rw (p.1, p.2) (record { picks = broke outside_of (ahead c.args.self.now) c.in_err-t.field-0.0 c.in_err-t.ensures.took; shorter = tt; eats = tt })
 
 pub returns : goal.returns
 returns c = record {
-  picks = fitted outside_of (ahead c.args.self.now) c.in-ok-t.t c.token.new.self.line c.token.new.self.column c.token.new.self.rest.now c.outside-of.result c.ok-or.result c.in-ok-t.ensures.took c.outside-of.ensures c.ok-or.ensures.value;
-  shorter = made_any c.ok-or.result _ c.in-ok-t.ensures.shorter;
-  eats = made_any c.ok-or.result _ c.in-ok-t.ensures.eats;
+  picks = fitted outside_of (ahead c.args.self.now) c.in_ok-t.t c.token.new.self.line c.token.new.self.column c.token.new.self.rest.now c.outside_of.result c.ok_or.result c.in_ok-t.ensures.took c.outside_of.ensures c.ok_or.ensures.value;
+  shorter = made_any c.ok_or.result _ c.in_ok-t.ensures.shorter;
+  eats = made_any c.ok_or.result _ c.in_ok-t.ensures.eats;
 }

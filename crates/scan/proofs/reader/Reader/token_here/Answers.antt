@@ -8,26 +8,26 @@ use Rattle.scan.specs.Taking.{Took, Takes}
 use Rattle.scan.proofs.Nexts.{nil_next, line_next, open_next, close_next, text_next_lem, run_next_lem, closed_text, unclosed_text, drop_two, took_by}
 use Rattle.scan.proofs.reader.Reader.token_here.Goals as goal
 
-pub returns-in-default : goal.returns-in-default
-returns-in-default c =
+pub returns-in_default : goal.returns-in_default
+returns-in_default c =
     let l = c.args.self.now.line in
     let k = c.args.self.now.column in
     let xs = c.args.self.now.rest.now in
-    let e : xs ≡ [] = c.in-default.ensures in
+    let e : xs ≡ [] = c.in_default.ensures in
     took_by (nil_next l k xs e) (record { line = refl; column = refl; tok = refl; line_after = refl; column_after = refl; rest = e })
 
-pub returns-then-not-is-closed : goal.returns-then-not-is-closed
-returns-then-not-is-closed c =
+pub returns-then-not-is_closed : goal.returns-then-not-is_closed
+returns-then-not-is_closed c =
     let l = c.args.self.now.line in
     let k = c.args.self.now.column in
     let xs = c.args.self.now.rest.now in
     let bs = c.in-Some.rest.now in
-    let open' : closed (prefix_len printable bs) bs ≡ false = ap (λ (n : ℕ). closed n bs) (sym c.front-n.ensures) ∙ sym c.if-not-is-closed.ensures in
+    let open' : closed (prefix_len printable bs) bs ≡ false = ap (λ (n : ℕ). closed n bs) (sym c.front-n.ensures) ∙ sym c.if-not-is_closed.ensures in
     let e = text_next_lem l k xs c.in-Some.first bs c.in-Some.ensures c.in-34.is ∙ unclosed_text l k (prefix_len printable bs) bs open' in
     (ap no_token_at (sym e), ap (λ (g : Next). g.tok) e)
 
-pub split-off-run-requires : goal.split-off-run-requires
-split-off-run-requires c = omega (arith, c.front-n-in-default-first.ensures, prefix_len-le-length unparted c.args.self.now.rest.now)
+pub split_off-run-requires : goal.split_off-run-requires
+split_off-run-requires c = omega (arith, c.front-n-in_default-first.ensures, prefix_len-le-length unparted c.args.self.now.rest.now)
 
 pub returns-in-10 : goal.returns-in-10
 returns-in-10 c =
@@ -45,7 +45,7 @@ returns-in-40 c =
     let bs = c.in-Some.rest.now in
     let e : xs ≡ c.in-Some.first ∷ bs = c.in-Some.ensures in
     took_by (open_next l k xs c.in-Some.first bs e c.in-40.is)
-    (record { line = refl; column = refl; tok = refl; line_after = c.split-off.ensures.line; column_after = c.split-off.ensures.column; rest = c.split-off.ensures.rest ∙ ap (drop 1) e })
+    (record { line = refl; column = refl; tok = refl; line_after = c.split_off.ensures.line; column_after = c.split_off.ensures.column; rest = c.split_off.ensures.rest ∙ ap (drop 1) e })
 
 pub returns-in-41 : goal.returns-in-41
 returns-in-41 c =
@@ -55,31 +55,31 @@ returns-in-41 c =
     let bs = c.in-Some.rest.now in
     let e : xs ≡ c.in-Some.first ∷ bs = c.in-Some.ensures in
     took_by (close_next l k xs c.in-Some.first bs e c.in-41.is)
-    (record { line = refl; column = refl; tok = refl; line_after = c.split-off-in-41.ensures.line; column_after = c.split-off-in-41.ensures.column; rest = c.split-off-in-41.ensures.rest ∙ ap (drop 1) e })
+    (record { line = refl; column = refl; tok = refl; line_after = c.split_off-in-41.ensures.line; column_after = c.split_off-in-41.ensures.column; rest = c.split_off-in-41.ensures.rest ∙ ap (drop 1) e })
 
-pub returns-else-not-is-closed : goal.returns-else-not-is-closed
-returns-else-not-is-closed c =
+pub returns-else-not-is_closed : goal.returns-else-not-is_closed
+returns-else-not-is_closed c =
     let l = c.args.self.now.line in
     let k = c.args.self.now.column in
     let xs = c.args.self.now.rest.now in
     let bs = c.in-Some.rest.now in
     let n = c.front-n.result in
     let e : xs ≡ c.in-Some.first ∷ bs = c.in-Some.ensures in
-    let shut : closed (prefix_len printable bs) bs ≡ true = ap (λ (m : ℕ). closed m bs) (sym c.front-n.ensures) ∙ sym c.if-not-is-closed.ensures in
+    let shut : closed (prefix_len printable bs) bs ≡ true = ap (λ (m : ℕ). closed m bs) (sym c.front-n.ensures) ∙ sym c.if-not-is_closed.ensures in
     let g = text_next_lem l k xs c.in-Some.first bs e c.in-34.is ∙ closed_text l k (prefix_len printable bs) bs shut ∙ ap (λ (m : ℕ). found l k (text (take m bs)) l (k + (m + 2)) (drop (m + 1) bs)) (sym c.front-n.ensures) in
     took_by g
-    (record { line = refl; column = refl; tok = ap text (c.split-text-text.ensures.part ∙ ap (λ (z : List ℕ). take n (drop 1 z)) e); line_after = c.split-text-text.ensures.line; column_after = c.split-text-text.ensures.column; rest = c.split-text-text.ensures.rest ∙ ap (drop (n + 2)) e ∙ drop_two n c.in-Some.first bs })
+    (record { line = refl; column = refl; tok = ap text (c.split_text-text.ensures.part ∙ ap (λ (z : List ℕ). take n (drop 1 z)) e); line_after = c.split_text-text.ensures.line; column_after = c.split_text-text.ensures.column; rest = c.split_text-text.ensures.rest ∙ ap (drop (n + 2)) e ∙ drop_two n c.in-Some.first bs })
 
 pub returns-in-Some-classify : goal.returns-in-Some-classify
 returns-in-Some-classify c =
     let l = c.args.self.now.line in
     let k = c.args.self.now.column in
     let xs = c.args.self.now.rest.now in
-    let n = c.front-n-in-default-first.result in
+    let n = c.front-n-in_default-first.result in
     let e = run_next_lem l k xs c.in-Some.first c.in-Some.rest.now c.in-Some.ensures (search rules) (search rules) (search rules) (search rules)
-    ∙ ap (λ (m : ℕ). found l k (run_token (take m xs)) l (k + m) (drop m xs)) (sym c.front-n-in-default-first.ensures) in
+    ∙ ap (λ (m : ℕ). found l k (run_token (take m xs)) l (k + m) (drop m xs)) (sym c.front-n-in_default-first.ensures) in
     took_by e
-    (record { line = refl; column = refl; tok = c.in-Some-classify.ensures ∙ ap run_token c.split-off-run.ensures.part; line_after = c.split-off-run.ensures.line; column_after = c.split-off-run.ensures.column; rest = c.split-off-run.ensures.rest })
+    (record { line = refl; column = refl; tok = c.in-Some-classify.ensures ∙ ap run_token c.split_off-run.ensures.part; line_after = c.split_off-run.ensures.line; column_after = c.split_off-run.ensures.column; rest = c.split_off-run.ensures.rest })
 
 pub returns-in-None : goal.returns-in-None
 returns-in-None c =
@@ -87,5 +87,5 @@ returns-in-None c =
     let k = c.args.self.now.column in
     let xs = c.args.self.now.rest.now in
     let e = run_next_lem l k xs c.in-Some.first c.in-Some.rest.now c.in-Some.ensures (search rules) (search rules) (search rules) (search rules)
-    ∙ ap (λ (m : ℕ). found l k (run_token (take m xs)) l (k + m) (drop m xs)) (sym c.front-n-in-default-first.ensures) in
-    (ap no_token_at (sym e), ap (λ (g : Next). g.tok) e ∙ ap run_token (sym c.split-off-run.ensures.part) ∙ c.in-None.ensures)
+    ∙ ap (λ (m : ℕ). found l k (run_token (take m xs)) l (k + m) (drop m xs)) (sym c.front-n-in_default-first.ensures) in
+    (ap no_token_at (sym e), ap (λ (g : Next). g.tok) e ∙ ap run_token (sym c.split_off-run.ensures.part) ∙ c.in-None.ensures)

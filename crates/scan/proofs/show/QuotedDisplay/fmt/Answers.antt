@@ -29,12 +29,12 @@ loop-b-preserved g c = λ plain.
     let h : c.loop-b.b-index < length bs = omega arith in
     let e : c.from.result ≡ get_or bs c.loop-b.b-index 0 = c.from.ensures in
     has_written_of_eq g.W.Write.write_str_gives _ _ _ _ (encodes_more bs c.loop-b.b-index c.from.result h e)
-    (has_written_append g.W.Write.write_str_gives _ _ c.loop-b.f _ _ x (c.in-ok-write-char-2.ensures.writes x.plain refl))
+    (has_written_append g.W.Write.write_str_gives _ _ c.loop-b.f _ _ x (c.in_ok-write_char-2.ensures.writes x.plain refl))
 
 pub returns-clause-writes : goal.returns-clause-writes
 returns-clause-writes g c = λ plain ok.
     let bs = c.args.self.now.0.now in
-    let p = c.in-ok-write-char.ensures.writes plain refl in
+    let p = c.in_ok-write_char.ensures.writes plain refl in
     let x = c.loop-b.invariant p.plain in
     has_written_of_eq g.W.Write.write_str_gives _ _ _ _ (in_quotes bs c.loop-b.b-index (omega arith))
-    (has_written_append g.W.Write.write_str_gives _ _ c.loop-b.f _ _ (has_written_append g.W.Write.write_str_gives _ _ c.write-char.new.self _ _ p x) (c.write-char-2.ensures.writes x.plain ok))
+    (has_written_append g.W.Write.write_str_gives _ _ c.loop-b.f _ _ (has_written_append g.W.Write.write_str_gives _ _ c.write_char.new.self _ _ p x) (c.write_char-2.ensures.writes x.plain ok))
