@@ -4,7 +4,7 @@ use Rattle.arena.specs.Titles.{count}
 use Rattle.heap.proofs.Outcomes.{ok_same, ok_not_err}
 use Rattle.heap.proofs.Scans.{count_now, field_now, field_below, scanned_more, scanned_at, visited_plain}
 use Rattle.heap.proofs.marking.scan.Goals as goal
-use Rattle.heap.proofs.marking.scan.Goals.{then-is-pointer+in-ok-end, else-is-pointer}
+use Rattle.heap.proofs.marking.scan.Goals.{then-is_pointer+in_ok-end, else-is_pointer}
 
 pub returns-in_err-d : goal.returns-in_err-d
 returns-in_err-d g c m ts a h =
@@ -32,11 +32,11 @@ loop-k-preserved g c m ts a h =
     let s = c.loop-k.invariant m ts a h in
     let de = c.in_ok-d.ensures.1 ∙ field_now m ts _ _ _ s.queue c.args.title c.loop-k.k h l in
     elim c.if-is_pointer.branch [
-      | then-is-pointer+in-ok-end w ↦
+      | then-is_pointer+in_ok-end w ↦
           let v = w.in_ok-end.ensures m ts s.queue (rw de (a.ground.valued c.args.title c.loop-k.k h l)) in
           scanned_at m ts _ _ _ _ _ _ _ _ _ _ w.work-is w.end-is (ap g.S.Store.memory w.store-is)
           (scanned_more m ts _ _ c.args.title c.loop-k.k _ _ _ _ _ _ _ de s (rw (← (ok_same _ _ v.1)) at v.2))
-      | else-is-pointer w ↦
+      | else-is_pointer w ↦
           scanned_at m ts _ _ _ _ _ _ _ _ _ _ w.work-is w.end-is (ap g.S.Store.memory w.store-is)
           (scanned_more m ts _ _ c.args.title c.loop-k.k _ _ _ _ _ _ _ de s (visited_plain m ts _ _ _ _ s.queue (c.is_pointer.ensures.no w.if-is_pointer.false)))
     ]

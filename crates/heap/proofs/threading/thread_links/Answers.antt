@@ -4,7 +4,7 @@ use Rattle.heap.proofs.Outcomes.{ok_same, ok_not_err}
 use Rattle.heap.proofs.Paths.{stop_title, kind_some, kind_few, length_is}
 use Rattle.heap.proofs.Chains.{threading_none, threading_titles, threading_below, threading_all, link_below, link_led, threading_skip, threading_keep}
 use Rattle.heap.proofs.threading.thread_links.Goals as goal
-use Rattle.heap.proofs.threading.thread_links.Goals.{then-t-ne0+then-t-ne0-2+in-ok-relink, else-t-ne0, else-t-ne0-via-then-t-ne0+else-t-ne0-2, else-t-ne0-via-else-t-ne0}
+use Rattle.heap.proofs.threading.thread_links.Goals.{then-t-ne0+then-t-ne0-2+in_ok-relink, else-t-ne0, else-t-ne0-via-then-t-ne0+else-t-ne0-2, else-t-ne0-via-else-t-ne0}
 
 pub returns-then-next-gt-MOST_CELLS : goal.returns-then-next-gt-MOST_CELLS
 returns-then-next-gt-MOST_CELLS g c ts link a lk = absurd (let f = (g.met.S.Store.sound c.args.store.now).few in let w = a.within in omega arith)
@@ -45,7 +45,7 @@ loop-at-preserved g c ts link a lk =
     let ne = length_is _ ts _ _ a c.loop-at.at _ te _ _ c.places-places.ensures
     (ok_same _ _ (c.in_ok-n.ensures.exact (kind_some _ ts _ _ a c.loop-at.at _ te h) (kind_few _ ts _ _ a c.loop-at.at _ te h) pe)) in
     elim c.if-t-ne0.branch [
-      | then-t-ne0+then-t-ne0-2+in-ok-relink w ↦
+      | then-t-ne0+then-t-ne0-2+in_ok-relink w ↦
           threading_keep _ ts _ _ a link c.loop-at.at _ s c.loop-at-test.true _ te _ ne _ _ w.if-t-ne0.true w.if-t-ne0-2.true
           (w.relink.ensures ts _ (link_below _ ts _ _ a link c.loop-at.at _ s c.loop-at-test.true _ te _ ne w.if-t-ne0-2.true)
           (link_led _ ts _ _ a link c.loop-at.at _ s c.loop-at-test.true _ te _ ne _ lk w.if-t-ne0.true w.if-t-ne0-2.true)).1
