@@ -11,8 +11,8 @@ pub returns : goal.returns
 returns g c =
     let first = c.in-Ok.ensures in
     let second = c.in-Ok-opened.ensures in
-    both_logs (with_bins (g.A.Store.memory c.args.a).figures c.args.a-bins) (view g.A.Store.memory c.in-Ok.w)
-    (with_bins (g.B.Store.memory c.args.b).figures c.args.b-bins) (view g.B.Store.memory c.in-Ok-opened.w) (calls_of c.args.calls.now)
-    (entries (vec_items c.in-ok-x.x)) (entries (vec_items c.in-ok-y.y)) (view g.A.Store.memory c.log.new.self) (view g.B.Store.memory c.log-2.new.self)
+    both_logs (with_bins (g.A.Store.memory c.args.a).figures c.args.a_bins) (view g.A.Store.memory c.in-Ok.w)
+    (with_bins (g.B.Store.memory c.args.b).figures c.args.b_bins) (view g.B.Store.memory c.in-Ok-opened.w) (calls_of c.args.calls.now)
+    (entries (vec_items c.in_ok-x.x)) (entries (vec_items c.in_ok-y.y)) (view g.A.Store.memory c.log.new.self) (view g.B.Store.memory c.log-2.new.self)
     first second
-    (c.in-ok-x.ensures empty (empty_arena c.args.a-bins) first.shown) (c.in-ok-y.ensures empty (empty_arena c.args.b-bins) second.shown)
+    (c.in_ok-x.ensures empty (empty_arena c.args.a_bins) first.shown) (c.in_ok-y.ensures empty (empty_arena c.args.b_bins) second.shown)

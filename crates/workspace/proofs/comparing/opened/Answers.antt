@@ -4,11 +4,11 @@ use Rattle.workspace.proofs.Steps.{passed}
 use Rattle.workspace.proofs.Comparisons.{open_says, open_ready}
 use Rattle.workspace.proofs.comparing.opened.Goals as goal
 
-pub returns-in-err-open : goal.returns-in-err-open
-returns-in-err-open g c =
-    let e = passed c.from-residual.result _ _ c.from-residual.ensures.1 refl in
-    rw e (open_says g.S.Store.memory c.args.store c.new-w.result c.args.bins c.new-w.ensures.made _ _ c.in-err-open.ensures.opens)
+pub returns-in_err-open : goal.returns-in_err-open
+returns-in_err-open g c =
+    let e = passed c.from_residual.result _ _ c.from_residual.ensures.1 refl in
+    rw e (open_says g.S.Store.memory c.args.store c.new-w.result c.args.bins c.new-w.ensures.made _ _ c.in_err-open.ensures.opens)
 
 pub returns : goal.returns
 returns g c =
-    open_ready g.S.Store.memory c.args.store c.new-w.result c.args.bins c.new-w.ensures.made (view g.S.Store.memory c.open.new.self) c.in-ok-open.ensures.opens
+    open_ready g.S.Store.memory c.args.store c.new-w.result c.args.bins c.new-w.ensures.made (view g.S.Store.memory c.open.new.self) c.in_ok-open.ensures.opens

@@ -12,46 +12,46 @@ use Rattle.workspace.proofs.Steps.{passed}
 use Rattle.workspace.proofs.Growing.{grew, next_small}
 use Rattle.workspace.proofs.space.Workspace.add_block.Goals as goal
 
-pub returns-in-err-next : goal.returns-in-err-next
-returns-in-err-next g c m a s long n1 n2 t1 t2 =
+pub returns-in_err-next : goal.returns-in_err-next
+returns-in_err-next g c m a s long n1 n2 t1 t2 =
     let v = view g.S.Store.memory c.args.self.now in
     let w = view g.S.Store.memory c.room.new.self in
-    let is : c.saturating-add.result ≡ c.args.n + 1 = omega (arith, c.saturating-add.ensures) in
+    let is : c.saturating_add.result ≡ c.args.n + 1 = omega (arith, c.saturating_add.ensures) in
     subst (λ r. Grows m a v (c.args.n + 1) (put_block m c.args.r c.args.n c.args.t) (λ b. arena_with_block m b c.args.n) w r)
-    (sym (passed c.from-residual.result _ _ c.from-residual.ensures.1 refl))
-    (subst (λ (k : ℕ). RoomOf m a v k w (Err c.in-err-next.field-0.0)) is (c.in-err-next.ensures m a s long))
+    (sym (passed c.from_residual.result _ _ c.from_residual.ensures.1 refl))
+    (subst (λ (k : ℕ). RoomOf m a v k w (Err c.in_err-next.field-0.0)) is (c.in_err-next.ensures m a s long))
 
-pub returns-in-err-end : goal.returns-in-err-end
-returns-in-err-end g c m a s long n1 n2 t1 t2 =
+pub returns-in_err-end : goal.returns-in_err-end
+returns-in_err-end g c m a s long n1 n2 t1 t2 =
     let v = view g.S.Store.memory c.args.self.now in
     let w = view g.S.Store.memory c.room.new.self in
-    let is : c.saturating-add.result ≡ c.args.n + 1 = omega (arith, c.saturating-add.ensures) in
-    let h : HasRoom m a v (c.args.n + 1) w c.in-ok-next.next = subst (λ (k : ℕ). HasRoom m a v k w c.in-ok-next.next) is (c.in-ok-next.ensures m a s long) in
-    ok_not_err (c.make-block.ensures.made m h.arena h.shown.shows h.next_is n1 n2 (omega (arith, h.enough, h.next_is, ap (λ f. f.cells) h.figures))).0 c.in-err-end.was
+    let is : c.saturating_add.result ≡ c.args.n + 1 = omega (arith, c.saturating_add.ensures) in
+    let h : HasRoom m a v (c.args.n + 1) w c.in_ok-next.next = subst (λ (k : ℕ). HasRoom m a v k w c.in_ok-next.next) is (c.in_ok-next.ensures m a s long) in
+    ok_not_err (c.make_block.ensures.made m h.arena h.shown.shows h.next_is n1 n2 (omega (arith, h.enough, h.next_is, ap (λ f. f.cells) h.figures))).0 c.in_err-end.was
 
-pub returns-in-err-block : goal.returns-in-err-block
-returns-in-err-block g c m a s long n1 n2 t1 t2 =
+pub returns-in_err-block : goal.returns-in_err-block
+returns-in_err-block g c m a s long n1 n2 t1 t2 =
     let v = view g.S.Store.memory c.args.self.now in
     let w = view g.S.Store.memory c.room.new.self in
-    let is : c.saturating-add.result ≡ c.args.n + 1 = omega (arith, c.saturating-add.ensures) in
-    let h : HasRoom m a v (c.args.n + 1) w c.in-ok-next.next = subst (λ (k : ℕ). HasRoom m a v k w c.in-ok-next.next) is (c.in-ok-next.ensures m a s long) in
-    ok_not_err (c.pointer-at.ensures (next_small m a v (c.args.n + 1) w c.in-ok-next.next (g.met.S.Store.sound c.args.self.now.cells) h)) c.in-err-block.was
+    let is : c.saturating_add.result ≡ c.args.n + 1 = omega (arith, c.saturating_add.ensures) in
+    let h : HasRoom m a v (c.args.n + 1) w c.in_ok-next.next = subst (λ (k : ℕ). HasRoom m a v k w c.in_ok-next.next) is (c.in_ok-next.ensures m a s long) in
+    ok_not_err (c.pointer_at.ensures (next_small m a v (c.args.n + 1) w c.in_ok-next.next (g.met.S.Store.sound c.args.self.now.cells) h)) c.in_err-block.was
 
 pub returns : goal.returns
 returns g c m a s long n1 n2 t1 t2 =
     let v = view g.S.Store.memory c.args.self.now in
     let w = view g.S.Store.memory c.room.new.self in
     let n = c.args.n in
-    let next = c.in-ok-next.next in
-    let is : c.saturating-add.result ≡ c.args.n + 1 = omega (arith, c.saturating-add.ensures) in
-    let h : HasRoom m a v (c.args.n + 1) w c.in-ok-next.next = subst (λ (k : ℕ). HasRoom m a v k w c.in-ok-next.next) is (c.in-ok-next.ensures m a s long) in
-    let made = c.in-ok-end.ensures.made m h.arena h.shown.shows h.next_is n1 n2 (omega (arith, h.enough, h.next_is, ap (λ f. f.cells) h.figures)) in
-    let end_is : c.in-ok-end.end ≡ h.arena.«next» + (c.args.n + 1) = omega (arith, ok_same {E = HeapFault} c.in-ok-end.end (next + n + 1) made.0, h.next_is) in
-    let pointer = ok_same {E = HeapFault} c.in-ok-block.block (desc (pos next) 16 c.args.t) (c.in-ok-block.ensures (next_small m a v (n + 1) w next (g.met.S.Store.sound c.args.self.now.cells) h)) in
-    let o = g.S.Store.memory c.make-block.new.store in
-    let code : Codes (add_block m c.args.n) (arena_with_block m h.arena c.args.n) (g.S.Store.memory c.make-block.new.store) (Value.to (length m.made) c.args.t) c.in-ok-block.block =
+    let next = c.in_ok-next.next in
+    let is : c.saturating_add.result ≡ c.args.n + 1 = omega (arith, c.saturating_add.ensures) in
+    let h : HasRoom m a v (c.args.n + 1) w c.in_ok-next.next = subst (λ (k : ℕ). HasRoom m a v k w c.in_ok-next.next) is (c.in_ok-next.ensures m a s long) in
+    let made = c.in_ok-end.ensures.made m h.arena h.shown.shows h.next_is n1 n2 (omega (arith, h.enough, h.next_is, ap (λ f. f.cells) h.figures)) in
+    let end_is : c.in_ok-end.end ≡ h.arena.«next» + (c.args.n + 1) = omega (arith, ok_same {E = HeapFault} c.in_ok-end.end (next + n + 1) made.0, h.next_is) in
+    let pointer = ok_same {E = HeapFault} c.in_ok-block.block (desc (pos next) 16 c.args.t) (c.in_ok-block.ensures (next_small m a v (n + 1) w next (g.met.S.Store.sound c.args.self.now.cells) h)) in
+    let o = g.S.Store.memory c.make_block.new.store in
+    let code : Codes (add_block m c.args.n) (arena_with_block m h.arena c.args.n) (g.S.Store.memory c.make_block.new.store) (Value.to (length m.made) c.args.t) c.in_ok-block.block =
     subst (λ (d : Descriptor). Codes (add_block m n) (arena_with_block m h.arena n) o (Value.to (length m.made) c.args.t) d)
     (ap (λ (k : ℕ). desc (pos k) 16 c.args.t) (sym h.next_is) ∙ sym pointer) (as_block made.1.here) in
-    subst (λ u. Grew m a v (n + 1) (put_block m c.args.r n c.args.t) (λ b. arena_with_block m b n) (view g.S.Store.memory u)) (sym c.end-at.ensures)
-    (grew m a v w (n + 1) next (block (length m.made)) (add_block m n) (λ b. arena_with_block m b n) o c.args.r (Value.to (length m.made) c.args.t) c.in-ok-block.block
-    h made.1 refl refl c.requires (t1, t2) code c.in-ok-end.end end_is)
+    subst (λ u. Grew m a v (n + 1) (put_block m c.args.r n c.args.t) (λ b. arena_with_block m b n) (view g.S.Store.memory u)) (sym c.end_at.ensures)
+    (grew m a v w (n + 1) next (block (length m.made)) (add_block m n) (λ b. arena_with_block m b n) o c.args.r (Value.to (length m.made) c.args.t) c.in_ok-block.block
+    h made.1 refl refl c.requires (t1, t2) code c.in_ok-end.end end_is)

@@ -12,48 +12,48 @@ use Rattle.workspace.proofs.Growing.{next_small}
 use Rattle.workspace.proofs.Entering.{need_is, fresh, text_grew}
 use Rattle.workspace.proofs.space.Workspace.add_text.Goals as goal
 
-pub returns-in-err-next : goal.returns-in-err-next
-returns-in-err-next g c m a s long bins some few codes away =
+pub returns-in_err-next : goal.returns-in_err-next
+returns-in_err-next g c m a s long bins some few codes away =
     let v = view g.S.Store.memory c.args.self.now in
     let w = view g.S.Store.memory c.room.new.self in
     let t = c.args.text.now in
     let k = string_cells v.memory.figures.places (length t) in
-    let is = need_is v.memory t c.places.result c.cells-of-string-need.result (g.met.S.Store.sound c.args.self.now.cells) c.places.ensures some few c.cells-of-string-need.ensures in
+    let is = need_is v.memory t c.places.result c.cells_of_string-need.result (g.met.S.Store.sound c.args.self.now.cells) c.places.ensures some few c.cells_of_string-need.ensures in
     subst (λ r. Grows m a v k (put m c.args.r (Value.text t)) (λ b. arena_with_text v.memory.figures.places b t) w r)
-    (sym (passed c.from-residual.result _ _ c.from-residual.ensures.1 refl))
-    (subst (λ (j : ℕ). RoomOf m a v j w (Err c.in-err-next.field-0.0)) is (c.in-err-next.ensures m a s long))
+    (sym (passed c.from_residual.result _ _ c.from_residual.ensures.1 refl))
+    (subst (λ (j : ℕ). RoomOf m a v j w (Err c.in_err-next.field-0.0)) is (c.in_err-next.ensures m a s long))
 
-pub returns-in-err-end : goal.returns-in-err-end
-returns-in-err-end g c m a s long bins some few codes away =
+pub returns-in_err-end : goal.returns-in_err-end
+returns-in_err-end g c m a s long bins some few codes away =
     let v = view g.S.Store.memory c.args.self.now in
     let w = view g.S.Store.memory c.room.new.self in
     let t = c.args.text.now in
     let k = string_cells v.memory.figures.places (length t) in
-    let is = need_is v.memory t c.places.result c.cells-of-string-need.result (g.met.S.Store.sound c.args.self.now.cells) c.places.ensures some few c.cells-of-string-need.ensures in
-    let h : HasRoom m a v k w c.in-ok-next.next = subst (λ (j : ℕ). HasRoom m a v j w c.in-ok-next.next) is (c.in-ok-next.ensures m a s long) in
-    ok_not_err (c.enter-text.ensures m h.arena (fresh m a v w c.in-ok-next.next t h c.args.bins bins some few codes away)).0 c.in-err-end.was
+    let is = need_is v.memory t c.places.result c.cells_of_string-need.result (g.met.S.Store.sound c.args.self.now.cells) c.places.ensures some few c.cells_of_string-need.ensures in
+    let h : HasRoom m a v k w c.in_ok-next.next = subst (λ (j : ℕ). HasRoom m a v j w c.in_ok-next.next) is (c.in_ok-next.ensures m a s long) in
+    ok_not_err (c.enter_text.ensures m h.arena (fresh m a v w c.in_ok-next.next t h c.args.bins bins some few codes away)).0 c.in_err-end.was
 
-pub returns-in-err-string : goal.returns-in-err-string
-returns-in-err-string g c m a s long bins some few codes away =
+pub returns-in_err-string : goal.returns-in_err-string
+returns-in_err-string g c m a s long bins some few codes away =
     let v = view g.S.Store.memory c.args.self.now in
     let w = view g.S.Store.memory c.room.new.self in
     let t = c.args.text.now in
     let k = string_cells v.memory.figures.places (length t) in
-    let is = need_is v.memory t c.places.result c.cells-of-string-need.result (g.met.S.Store.sound c.args.self.now.cells) c.places.ensures some few c.cells-of-string-need.ensures in
-    let h : HasRoom m a v k w c.in-ok-next.next = subst (λ (j : ℕ). HasRoom m a v j w c.in-ok-next.next) is (c.in-ok-next.ensures m a s long) in
-    ok_not_err (c.pointer-at.ensures (next_small m a v k w c.in-ok-next.next (g.met.S.Store.sound c.args.self.now.cells) h)) c.in-err-string.was
+    let is = need_is v.memory t c.places.result c.cells_of_string-need.result (g.met.S.Store.sound c.args.self.now.cells) c.places.ensures some few c.cells_of_string-need.ensures in
+    let h : HasRoom m a v k w c.in_ok-next.next = subst (λ (j : ℕ). HasRoom m a v j w c.in_ok-next.next) is (c.in_ok-next.ensures m a s long) in
+    ok_not_err (c.pointer_at.ensures (next_small m a v k w c.in_ok-next.next (g.met.S.Store.sound c.args.self.now.cells) h)) c.in_err-string.was
 
 pub returns : goal.returns
 returns g c m a s long bins some few codes away =
     let v = view g.S.Store.memory c.args.self.now in
     let w = view g.S.Store.memory c.room.new.self in
     let t = c.args.text.now in
-    let next = c.in-ok-next.next in
+    let next = c.in_ok-next.next in
     let k = string_cells v.memory.figures.places (length t) in
-    let is = need_is v.memory t c.places.result c.cells-of-string-need.result (g.met.S.Store.sound c.args.self.now.cells) c.places.ensures some few c.cells-of-string-need.ensures in
-    let h : HasRoom m a v k w c.in-ok-next.next = subst (λ (j : ℕ). HasRoom m a v j w c.in-ok-next.next) is (c.in-ok-next.ensures m a s long) in
-    let made = c.in-ok-end.ensures m h.arena (fresh m a v w next t h c.args.bins bins some few codes away) in
-    let end_is = ok_same {E = HeapFault} c.in-ok-end.end (next + string_cells w.memory.figures.places (length t)) made.0 in
-    let pointer = ok_same {E = HeapFault} c.in-ok-string.string (desc (pos next) 16 1) (c.in-ok-string.ensures (next_small m a v k w next (g.met.S.Store.sound c.args.self.now.cells) h)) in
-    subst (λ u. Grew m a v k (put m c.args.r (Value.text t)) (λ b. arena_with_text v.memory.figures.places b t) (view g.S.Store.memory u)) (sym c.end-at.ensures)
-    (text_grew m a v w next t h (g.S.Store.memory c.enter-text.new.store) c.args.r c.in-ok-end.end c.in-ok-string.string made.1 c.requires end_is pointer)
+    let is = need_is v.memory t c.places.result c.cells_of_string-need.result (g.met.S.Store.sound c.args.self.now.cells) c.places.ensures some few c.cells_of_string-need.ensures in
+    let h : HasRoom m a v k w c.in_ok-next.next = subst (λ (j : ℕ). HasRoom m a v j w c.in_ok-next.next) is (c.in_ok-next.ensures m a s long) in
+    let made = c.in_ok-end.ensures m h.arena (fresh m a v w next t h c.args.bins bins some few codes away) in
+    let end_is = ok_same {E = HeapFault} c.in_ok-end.end (next + string_cells w.memory.figures.places (length t)) made.0 in
+    let pointer = ok_same {E = HeapFault} c.in_ok-string.string (desc (pos next) 16 1) (c.in_ok-string.ensures (next_small m a v k w next (g.met.S.Store.sound c.args.self.now.cells) h)) in
+    subst (λ u. Grew m a v k (put m c.args.r (Value.text t)) (λ b. arena_with_text v.memory.figures.places b t) (view g.S.Store.memory u)) (sym c.end_at.ensures)
+    (text_grew m a v w next t h (g.S.Store.memory c.enter_text.new.store) c.args.r c.in_ok-end.end c.in_ok-string.string made.1 c.requires end_is pointer)

@@ -14,64 +14,64 @@ use Rattle.workspace.proofs.Steps.{at_door, by_giving, by_refusing, passed, put_
 use Rattle.workspace.proofs.Divisions.{quotient_then, divisor_then, number_fault, number_is, number_not, quotient_some, quotient_none}
 use Rattle.workspace.proofs.space.Workspace.divide.Goals as goal
 
-pub returns-in-err-admit : goal.returns-in-err-admit
-returns-in-err-admit g c =
+pub returns-in_err-admit : goal.returns-in_err-admit
+returns-in_err-admit g c =
     record {
-      exact = at_door (view g.S.Store.memory c.args.self.now) (Call.divide c.args.r c.args.s c.args.q) (c.args.r ∷ c.args.s ∷ c.args.q ∷ []) nothing c.from-residual.result c.in-err-admit.field-0.0
-          c.in-err-admit.ensures (passed c.from-residual.result _ _ c.from-residual.ensures.1 refl) tt refl (λ l m u h. (_, refl));
+      exact = at_door (view g.S.Store.memory c.args.self.now) (Call.divide c.args.r c.args.s c.args.q) (c.args.r ∷ c.args.s ∷ c.args.q ∷ []) nothing c.from_residual.result c.in_err-admit.field-0.0
+          c.in_err-admit.ensures (passed c.from_residual.result _ _ c.from_residual.ensures.1 refl) tt refl (λ l m u h. (_, refl));
       kept = λ _. refl;
     }
 
-pub returns-in-err-a : goal.returns-in-err-a
-returns-in-err-a g c =
+pub returns-in_err-a : goal.returns-in_err-a
+returns-in_err-a g c =
     let v = view g.S.Store.memory c.args.self.now in
     let r = c.args.r in
     let s = c.args.s in
     let q = c.args.q in
-    let ok = c.in-ok-admit.ensures in
-    let no-a = c.in-err-a.ensures in
+    let ok = c.in_ok-admit.ensures in
+    let no-a = c.in_err-a.ensures in
     record {
-      exact = by_refusing v (Call.divide r s q) (r ∷ s ∷ q ∷ []) nothing c.from-residual-in-err-a.result (wrong_kind Word.Divide s) ok
-          (passed c.from-residual-in-err-a.result _ _ c.from-residual-in-err-a.ensures.1 (number_fault Word.Divide s (held (holding v s)) c.in-err-a.field-0.0 no-a)) tt refl
-          (λ m a h l u t. ap (registers_then (r ∷ s ∷ q ∷ [])) (number_not h Word.Divide s ok.1.1.0 (divisor_then m r q) c.in-err-a.field-0.0 no-a));
+      exact = by_refusing v (Call.divide r s q) (r ∷ s ∷ q ∷ []) nothing c.from_residual-in_err-a.result (wrong_kind Word.Divide s) ok
+          (passed c.from_residual-in_err-a.result _ _ c.from_residual-in_err-a.ensures.1 (number_fault Word.Divide s (held (holding v s)) c.in_err-a.field-0.0 no-a)) tt refl
+          (λ m a h l u t. ap (registers_then (r ∷ s ∷ q ∷ [])) (number_not h Word.Divide s ok.1.1.0 (divisor_then m r q) c.in_err-a.field-0.0 no-a));
       kept = λ _. refl;
     }
 
-pub returns-in-err-b : goal.returns-in-err-b
-returns-in-err-b g c =
+pub returns-in_err-b : goal.returns-in_err-b
+returns-in_err-b g c =
     let v = view g.S.Store.memory c.args.self.now in
     let r = c.args.r in
     let s = c.args.s in
     let q = c.args.q in
-    let x = c.in-ok-a.a in
-    let ok = c.in-ok-admit.ensures in
-    let no-b = c.in-err-b.ensures in
+    let x = c.in_ok-a.a in
+    let ok = c.in_ok-admit.ensures in
+    let no-b = c.in_err-b.ensures in
     record {
-      exact = by_refusing v (Call.divide r s q) (r ∷ s ∷ q ∷ []) nothing c.from-residual-in-err-b.result (wrong_kind Word.Divide q) ok
-          (passed c.from-residual-in-err-b.result _ _ c.from-residual-in-err-b.ensures.1 (number_fault Word.Divide q (held (holding v q)) c.in-err-b.field-0.0 no-b)) tt refl
+      exact = by_refusing v (Call.divide r s q) (r ∷ s ∷ q ∷ []) nothing c.from_residual-in_err-b.result (wrong_kind Word.Divide q) ok
+          (passed c.from_residual-in_err-b.result _ _ c.from_residual-in_err-b.ensures.1 (number_fault Word.Divide q (held (holding v q)) c.in_err-b.field-0.0 no-b)) tt refl
           (λ m a h l u t. ap (registers_then (r ∷ s ∷ q ∷ []))
-          (number_is h Word.Divide s ok.1.1.0 (divisor_then m r q) x c.in-ok-a.ensures
-          ∙ number_not h Word.Divide q ok.1.1.1.0 (quotient_then m r x) c.in-err-b.field-0.0 no-b));
+          (number_is h Word.Divide s ok.1.1.0 (divisor_then m r q) x c.in_ok-a.ensures
+          ∙ number_not h Word.Divide q ok.1.1.1.0 (quotient_then m r x) c.in_err-b.field-0.0 no-b));
       kept = λ _. refl;
     }
 
-pub returns-in-default : goal.returns-in-default
-returns-in-default g c =
+pub returns-in_default : goal.returns-in_default
+returns-in_default g c =
     let v = view g.S.Store.memory c.args.self.now in
     let r = c.args.r in
     let s = c.args.s in
     let q = c.args.q in
-    let x = c.in-ok-a.a in
-    let y = c.in-ok-b.b in
-    let ok = c.in-ok-admit.ensures in
+    let x = c.in_ok-a.a in
+    let y = c.in_ok-b.b in
+    let ok = c.in_ok-admit.ensures in
     let fx : SFits w32 x = search rules in
     let fy : SFits w32 y = search rules in
-    let none = quotient_none c.quotient-of.result _ _ x y (to_z-of_z w32 x fx) (to_z-of_z w32 y fy) c.quotient-of.ensures c.in-default.not-Some in
+    let none = quotient_none c.quotient_of.result _ _ x y (to_z-of_z w32 x fx) (to_z-of_z w32 y fy) c.quotient_of.ensures c.in_default.not-Some in
     record {
       exact = by_refusing v (Call.divide r s q) (r ∷ s ∷ q ∷ []) nothing (Err (record { cause = Division; call = Word.Divide; register = r })) (record { cause = Division; call = Word.Divide; register = r }) ok refl tt refl
           (λ m a h l u t. ap (registers_then (r ∷ s ∷ q ∷ []))
-          (number_is h Word.Divide s ok.1.1.0 (divisor_then m r q) x c.in-ok-a.ensures
-          ∙ number_is h Word.Divide q ok.1.1.1.0 (quotient_then m r x) y c.in-ok-b.ensures
+          (number_is h Word.Divide s ok.1.1.0 (divisor_then m r q) x c.in_ok-a.ensures
+          ∙ number_is h Word.Divide q ok.1.1.1.0 (quotient_then m r x) y c.in_ok-b.ensures
           ∙ cond-false (divides x y) _ _ none));
       kept = λ _. refl;
     }
@@ -82,10 +82,10 @@ returns g c =
     let r = c.args.r in
     let s = c.args.s in
     let q = c.args.q in
-    let x = c.in-ok-a.a in
-    let y = c.in-ok-b.b in
+    let x = c.in_ok-a.a in
+    let y = c.in_ok-b.b in
     let z = c.in-Some.z in
-    let ok = c.in-ok-admit.ensures in
+    let ok = c.in_ok-admit.ensures in
     let fx : SFits w32 x = search rules in
     let fy : SFits w32 y = search rules in
     let fz : SFits w32 z = search rules in
@@ -96,8 +96,8 @@ returns g c =
           (λ m a h. (
             put m r (Value.number z),
             (λ l u t. ap (registers_then (r ∷ s ∷ q ∷ []))
-                (number_is h Word.Divide s ok.1.1.0 (divisor_then m r q) x c.in-ok-a.ensures
-                ∙ number_is h Word.Divide q ok.1.1.1.0 (quotient_then m r x) y c.in-ok-b.ensures
+                (number_is h Word.Divide s ok.1.1.0 (divisor_then m r q) x c.in_ok-a.ensures
+                ∙ number_is h Word.Divide q ok.1.1.1.0 (quotient_then m r x) y c.in_ok-b.ensures
                 ∙ cond-true (divides x y) _ _ some.0
                 ∙ ap (λ (k : ℤ). give [] [] (put m r (Value.number k))) some.1)),
             put_shown m a v r (Value.number z) c.plain.result h (omega (arith, ok.1.0)) tt (subst (λ (k : Descriptor). Codes m a v.memory (Value.number z) k) (sym d) as_number),

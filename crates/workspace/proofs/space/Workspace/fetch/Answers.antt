@@ -6,38 +6,38 @@ use Rattle.workspace.proofs.Steps.{at_door, passed}
 use Rattle.workspace.proofs.Named.{fetch_unfit, fetch_fails, fetch_gives}
 use Rattle.workspace.proofs.space.Workspace.fetch.Goals as goal
 
-pub returns-in-err-admit : goal.returns-in-err-admit
-returns-in-err-admit g c =
+pub returns-in_err-admit : goal.returns-in_err-admit
+returns-in_err-admit g c =
     record {
-      exact = at_door (view g.S.Store.memory c.args.self.now) (Call.fetch c.args.r c.args.s) (c.args.r ∷ c.args.s ∷ []) nothing c.from-residual.result
-          c.in-err-admit.field-0.0 c.in-err-admit.ensures (passed c.from-residual.result _ _ c.from-residual.ensures.1 refl) tt refl (λ l m u h. (_, refl));
+      exact = at_door (view g.S.Store.memory c.args.self.now) (Call.fetch c.args.r c.args.s) (c.args.r ∷ c.args.s ∷ []) nothing c.from_residual.result
+          c.in_err-admit.field-0.0 c.in_err-admit.ensures (passed c.from_residual.result _ _ c.from_residual.ensures.1 refl) tt refl (λ l m u h. (_, refl));
       kept = λ _. refl;
     }
 
-pub returns-in-err-cell : goal.returns-in-err-cell
-returns-in-err-cell g c =
+pub returns-in_err-cell : goal.returns-in_err-cell
+returns-in_err-cell g c =
     record {
-      exact = fetch_unfit (view g.S.Store.memory c.args.self.now) c.args.r c.args.s c.in-ok-admit.ensures
-          c.from-residual-in-err-cell.result c.in-err-cell.field-0.0 c.in-err-cell.ensures
-          (passed c.from-residual-in-err-cell.result _ _ c.from-residual-in-err-cell.ensures.1 refl);
+      exact = fetch_unfit (view g.S.Store.memory c.args.self.now) c.args.r c.args.s c.in_ok-admit.ensures
+          c.from_residual-in_err-cell.result c.in_err-cell.field-0.0 c.in_err-cell.ensures
+          (passed c.from_residual-in_err-cell.result _ _ c.from_residual-in_err-cell.ensures.1 refl);
       kept = λ _. refl;
     }
 
-pub returns-in-err-d : goal.returns-in-err-d
-returns-in-err-d g c =
+pub returns-in_err-d : goal.returns-in_err-d
+returns-in_err-d g c =
     record {
-      exact = fetch_fails (view g.S.Store.memory c.args.self.now) c.args.r c.args.s c.in-ok-admit.ensures
-          c.in-ok-cell.cell c.in-ok-cell.ensures c.fetch-field.result c.fetch-field.ensures
-          c.from-residual-in-err-d.result c.in-err-d.field-0.0 c.in-err-d.ensures
-          (passed c.from-residual-in-err-d.result (told c.in-err-d.field-0.0) _ c.from-residual-in-err-d.ensures.1 refl);
+      exact = fetch_fails (view g.S.Store.memory c.args.self.now) c.args.r c.args.s c.in_ok-admit.ensures
+          c.in_ok-cell.cell c.in_ok-cell.ensures c.fetch_field.result c.fetch_field.ensures
+          c.from_residual-in_err-d.result c.in_err-d.field-0.0 c.in_err-d.ensures
+          (passed c.from_residual-in_err-d.result (told c.in_err-d.field-0.0) _ c.from_residual-in_err-d.ensures.1 refl);
       kept = λ _. refl;
     }
 
 pub returns : goal.returns
 returns g c =
     record {
-      exact = fetch_gives (view g.S.Store.memory c.args.self.now) c.args.r c.args.s c.in-ok-admit.ensures
-          c.in-ok-cell.cell c.in-ok-cell.ensures c.fetch-field.result c.fetch-field.ensures
-          c.in-ok-d.d c.in-ok-d.ensures;
+      exact = fetch_gives (view g.S.Store.memory c.args.self.now) c.args.r c.args.s c.in_ok-admit.ensures
+          c.in_ok-cell.cell c.in_ok-cell.ensures c.fetch_field.result c.fetch_field.ensures
+          c.in_ok-d.d c.in_ok-d.ensures;
       kept = search rules;
     }

@@ -6,38 +6,38 @@ use Rattle.workspace.proofs.Steps.{at_door, passed}
 use Rattle.workspace.proofs.Named.{name_unfit, name_fails, name_gives}
 use Rattle.workspace.proofs.space.Workspace.name.Goals as goal
 
-pub returns-in-err-admit : goal.returns-in-err-admit
-returns-in-err-admit g c =
+pub returns-in_err-admit : goal.returns-in_err-admit
+returns-in_err-admit g c =
     record {
-      exact = at_door (view g.S.Store.memory c.args.self.now) (Call.name c.args.r c.args.s c.args.k) (c.args.r ∷ c.args.s ∷ []) nothing c.from-residual.result
-          c.in-err-admit.field-0.0 c.in-err-admit.ensures (passed c.from-residual.result _ _ c.from-residual.ensures.1 refl) tt refl (λ l m u h. (_, refl));
+      exact = at_door (view g.S.Store.memory c.args.self.now) (Call.name c.args.r c.args.s c.args.k) (c.args.r ∷ c.args.s ∷ []) nothing c.from_residual.result
+          c.in_err-admit.field-0.0 c.in_err-admit.ensures (passed c.from_residual.result _ _ c.from_residual.ensures.1 refl) tt refl (λ l m u h. (_, refl));
       kept = λ _. refl;
     }
 
-pub returns-in-err-title : goal.returns-in-err-title
-returns-in-err-title g c =
+pub returns-in_err-title : goal.returns-in_err-title
+returns-in_err-title g c =
     record {
-      exact = name_unfit (view g.S.Store.memory c.args.self.now) c.args.r c.args.s c.args.k c.in-ok-admit.ensures
-          c.from-residual-in-err-title.result c.in-err-title.field-0.0 c.in-err-title.ensures
-          (passed c.from-residual-in-err-title.result _ _ c.from-residual-in-err-title.ensures.1 refl);
+      exact = name_unfit (view g.S.Store.memory c.args.self.now) c.args.r c.args.s c.args.k c.in_ok-admit.ensures
+          c.from_residual-in_err-title.result c.in_err-title.field-0.0 c.in_err-title.ensures
+          (passed c.from_residual-in_err-title.result _ _ c.from_residual-in_err-title.ensures.1 refl);
       kept = λ _. refl;
     }
 
-pub returns-in-err-d : goal.returns-in-err-d
-returns-in-err-d g c =
+pub returns-in_err-d : goal.returns-in_err-d
+returns-in_err-d g c =
     record {
-      exact = name_fails (view g.S.Store.memory c.args.self.now) c.args.r c.args.s c.args.k c.in-ok-admit.ensures
-          c.in-ok-title.title c.in-ok-title.ensures c.name-of.result (record { there = c.name-of.ensures.there; absent = c.name-of.ensures.absent })
-          c.from-residual-in-err-d.result c.in-err-d.field-0.0 c.in-err-d.ensures
-          (passed c.from-residual-in-err-d.result (told c.in-err-d.field-0.0) _ c.from-residual-in-err-d.ensures.1 refl);
+      exact = name_fails (view g.S.Store.memory c.args.self.now) c.args.r c.args.s c.args.k c.in_ok-admit.ensures
+          c.in_ok-title.title c.in_ok-title.ensures c.name_of.result (record { there = c.name_of.ensures.there; absent = c.name_of.ensures.absent })
+          c.from_residual-in_err-d.result c.in_err-d.field-0.0 c.in_err-d.ensures
+          (passed c.from_residual-in_err-d.result (told c.in_err-d.field-0.0) _ c.from_residual-in_err-d.ensures.1 refl);
       kept = λ _. refl;
     }
 
 pub returns : goal.returns
 returns g c =
     record {
-      exact = name_gives (view g.S.Store.memory c.args.self.now) c.args.r c.args.s c.args.k c.in-ok-admit.ensures
-          c.in-ok-title.title c.in-ok-title.ensures c.name-of.result (record { there = c.name-of.ensures.there; absent = c.name-of.ensures.absent })
-          c.in-ok-d.d c.in-ok-d.ensures;
+      exact = name_gives (view g.S.Store.memory c.args.self.now) c.args.r c.args.s c.args.k c.in_ok-admit.ensures
+          c.in_ok-title.title c.in_ok-title.ensures c.name_of.result (record { there = c.name_of.ensures.there; absent = c.name_of.ensures.absent })
+          c.in_ok-d.d c.in_ok-d.ensures;
       kept = search rules;
     }

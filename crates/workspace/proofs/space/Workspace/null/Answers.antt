@@ -7,11 +7,11 @@ use Rattle.workspace.specs.Shown.{view, nothing}
 use Rattle.workspace.proofs.Steps.{at_door, by_giving, passed, put_shown}
 use Rattle.workspace.proofs.space.Workspace.null.Goals as goal
 
-pub returns-in-err-admit : goal.returns-in-err-admit
-returns-in-err-admit g c =
+pub returns-in_err-admit : goal.returns-in_err-admit
+returns-in_err-admit g c =
     record {
-      exact = at_door (view g.S.Store.memory c.args.self.now) (Call.null c.args.r) (c.args.r ∷ []) nothing c.from-residual.result c.in-err-admit.field-0.0
-          c.in-err-admit.ensures (passed c.from-residual.result _ _ c.from-residual.ensures.1 refl) tt refl (λ l m u h. (_, refl));
+      exact = at_door (view g.S.Store.memory c.args.self.now) (Call.null c.args.r) (c.args.r ∷ []) nothing c.from_residual.result c.in_err-admit.field-0.0
+          c.in_err-admit.ensures (passed c.from_residual.result _ _ c.from_residual.ensures.1 refl) tt refl (λ l m u h. (_, refl));
       kept = λ _. refl;
     }
 
@@ -19,7 +19,7 @@ pub returns : goal.returns
 returns g c =
     let v = view g.S.Store.memory c.args.self.now in
     let r = c.args.r in
-    let ok = c.in-ok-admit.ensures in
+    let ok = c.in_ok-admit.ensures in
     record {
       exact = by_giving v _ (Call.null r) (r ∷ []) [] [] ok tt refl
           (λ m a s. (

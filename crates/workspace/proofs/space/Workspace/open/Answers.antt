@@ -6,9 +6,9 @@ use Rattle.workspace.proofs.space.Workspace.open.Goals as goal
 
 pub returns : goal.returns
 returns g c =
-    let o = c.open-arena.ensures (omega arith) (omega arith) (omega arith) in
+    let o = c.open_arena.ensures (omega arith) (omega arith) (omega arith) in
     record {
-      opens = opened_empty (view g.S.Store.memory c.args.self.now) c.args.bins c.in-ok-next.next (g.S.Store.memory c.open-arena.new.store) c.in-default.is
-          (omega arith) (omega arith) (omega arith) (raised_ok c.open-arena.result _ _ _ _ c.in-ok-next.ensures o.0) o.1 o.2;
+      opens = opened_empty (view g.S.Store.memory c.args.self.now) c.args.bins c.in_ok-next.next (g.S.Store.memory c.open_arena.new.store) c.in_default.is
+          (omega arith) (omega arith) (omega arith) (raised_ok c.open_arena.result _ _ _ _ c.in_ok-next.ensures o.0) o.1 o.2;
       kept = search rules;
     }

@@ -8,6 +8,6 @@ pub returns-in-Ok : goal.returns-in-Ok
 returns-in-Ok g c =
     let v = view g.S.Store.memory c.args.self.now in
     let n = c.in-Ok.count in
-    let long : length c.deref-mut.result.now ≡ c.args.n = search rules in
-    let characters = c.truncate.ensures.items ∙ ap (take n) (take_front c.read.new.buffer (drop (length c.read.new.buffer) c.in-ok-buffer.buffer.items) c.in-ok-buffer.buffer.len (c.read.auto.buffer ∙ c.deref-mut.ensures.len)) in
+    let long : length c.deref_mut.result.now ≡ c.args.n = search rules in
+    let characters = c.truncate.ensures.items ∙ ap (take n) (take_front c.read.new.buffer (drop (length c.read.new.buffer) c.in_ok-buffer.buffer.items) c.in_ok-buffer.buffer.len (c.read.auto.buffer ∙ c.deref_mut.ensures.len)) in
     subst₂ (λ k t. Exact v (Call.read c.args.r k) (ok (pos n ∷ []) t) v) long (sym characters) c.in-Ok.ensures.exact

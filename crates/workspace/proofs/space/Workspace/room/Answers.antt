@@ -6,20 +6,20 @@ use Rattle.workspace.proofs.Steps.{passed}
 use Rattle.workspace.proofs.Rooms.{down, room_ok, room_err}
 use Rattle.workspace.proofs.space.Workspace.room.Goals as goal
 
-pub returns-in-err-answer : goal.returns-in-err-answer
-returns-in-err-answer g c m a s long =
+pub returns-in_err-answer : goal.returns-in_err-answer
+returns-in_err-answer g c m a s long =
     let v = view g.S.Store.memory c.args.self.now in
-    let l = c.make-room-answer.new in
+    let l = c.make_room-answer.new in
     let shown = down m a v c.in-Opened.bins c.in-Opened.next c.args.work.now s c.in-Opened.is long in
     let w : View = record { memory = g.S.Store.memory l.store; registers = l.registers; state = Opened c.in-Opened.bins l.next } in
-    subst (λ r. RoomOf m a v c.args.need w r) (sym (passed c.from-residual.result _ _ c.from-residual.ensures.1 refl))
-    (room_err m a v c.in-Opened.bins c.in-Opened.next c.args.need s c.in-Opened.is l.next l.registers l.work (g.S.Store.memory l.store) c.in-err-answer.field-0.0
-    (c.in-err-answer.ensures.answer m a shown) (c.in-err-answer.ensures.full m a shown))
+    subst (λ r. RoomOf m a v c.args.need w r) (sym (passed c.from_residual.result _ _ c.from_residual.ensures.1 refl))
+    (room_err m a v c.in-Opened.bins c.in-Opened.next c.args.need s c.in-Opened.is l.next l.registers l.work (g.S.Store.memory l.store) c.in_err-answer.field-0.0
+    (c.in_err-answer.ensures.answer m a shown) (c.in_err-answer.ensures.full m a shown))
 
 pub returns : goal.returns
 returns g c m a s long =
     let v = view g.S.Store.memory c.args.self.now in
-    let l = c.make-room-answer.new in
+    let l = c.make_room-answer.new in
     let shown = down m a v c.in-Opened.bins c.in-Opened.next c.args.work.now s c.in-Opened.is long in
     room_ok m a v c.in-Opened.bins c.in-Opened.next c.args.need s c.in-Opened.is l.next l.registers l.work (g.S.Store.memory l.store)
-    (c.in-ok-answer.ensures.answer m a shown) (c.in-ok-answer.ensures.full m a shown)
+    (c.in_ok-answer.ensures.answer m a shown) (c.in_ok-answer.ensures.full m a shown)

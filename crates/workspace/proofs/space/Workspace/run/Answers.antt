@@ -18,13 +18,13 @@ loop-call-preserved g c m a s h =
     let u = view g.S.Store.memory c.loop-call.self in
     let w = view g.S.Store.memory c.perform.new.self in
     let log = vec_items c.loop-call.log in
-    let x = c.in-ok-entry.entry in
+    let x = c.in_ok-entry.entry in
     let i = c.loop-call.call-index in
     let one-call = map_more meant c.args.calls.now i (Request.Null 0) c.loop-call-test.true in
-    let one_entry = ap entries c.in-ok-push.ensures.items ∙ map_push entry log x in
+    let one_entry = ap entries c.in_ok-push.ensures.items ∙ map_push entry log x in
     subst₂ (λ cs l. Logged v m a cs l w) (sym one-call) (sym one_entry)
     (logged_more v m a (calls_of (take i c.args.calls.now)) (entries log) u (length c.loop-call.work) _ (entry x) w
-    (omega (arith, h, c.loop-call.auto.work)) (c.loop-call.invariant m a s h) c.in-ok-entry.ensures)
+    (omega (arith, h, c.loop-call.auto.work)) (c.loop-call.invariant m a s h) c.in_ok-entry.ensures)
 
 pub returns : goal.returns
 returns g c m a s h =

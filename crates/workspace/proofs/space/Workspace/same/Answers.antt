@@ -5,17 +5,17 @@ use Rattle.workspace.proofs.Steps.{at_door, by_giving, passed}
 use Rattle.workspace.proofs.Agreements.{same_count}
 use Rattle.workspace.proofs.space.Workspace.same.Goals as goal
 
-pub returns-in-err-admit : goal.returns-in-err-admit
-returns-in-err-admit g c =
-    at_door (view g.S.Store.memory c.args.self.now) (Call.same c.args.r c.args.s) (c.args.r ∷ c.args.s ∷ []) count c.from-residual.result c.in-err-admit.field-0.0
-    c.in-err-admit.ensures (passed c.from-residual.result _ _ c.from-residual.ensures.1 refl) tt refl (λ l m u h. (_, refl))
+pub returns-in_err-admit : goal.returns-in_err-admit
+returns-in_err-admit g c =
+    at_door (view g.S.Store.memory c.args.self.now) (Call.same c.args.r c.args.s) (c.args.r ∷ c.args.s ∷ []) count c.from_residual.result c.in_err-admit.field-0.0
+    c.in_err-admit.ensures (passed c.from_residual.result _ _ c.from_residual.ensures.1 refl) tt refl (λ l m u h. (_, refl))
 
 pub returns : goal.returns
 returns g c =
     let v = view g.S.Store.memory c.args.self.now in
     let r = c.args.r in
     let s = c.args.s in
-    let ok = c.in-ok-admit.ensures in
+    let ok = c.in_ok-admit.ensures in
     by_giving v v (Call.same r s) (r ∷ s ∷ []) (count c.agreement.result) [] ok tt refl
     (λ m a h. let e = same_count m a v h r s c.agreement.result ok.1.0 ok.1.1.0 c.agreement.ensures.equal c.agreement.ensures.unequal in
     (m, (λ l u t. ap (λ (z : ℤ). registers_then (r ∷ s ∷ []) (give (z ∷ []) [] m)) e), h))

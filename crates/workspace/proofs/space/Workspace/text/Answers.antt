@@ -14,76 +14,76 @@ use Rattle.workspace.proofs.Fulls.{fault_of, untouched_same, untouched_full}
 use Rattle.workspace.proofs.Texts.{fit_few, text_unfit, text_short, text_full, text_entered, text_empty}
 use Rattle.workspace.proofs.space.Workspace.text.Goals as goal
 
-pub returns-in-err-admit : goal.returns-in-err-admit
-returns-in-err-admit g c =
+pub returns-in_err-admit : goal.returns-in_err-admit
+returns-in_err-admit g c =
     record {
       exact = at_door_with (view g.S.Store.memory c.args.self.now) (length c.args.work.now) (Call.text c.args.r c.args.bytes.now) (c.args.r ∷ []) nothing
-          c.from-residual.result c.in-err-admit.field-0.0 c.in-err-admit.ensures (passed c.from-residual.result _ _ c.from-residual.ensures.1 refl) refl
+          c.from_residual.result c.in_err-admit.field-0.0 c.in_err-admit.ensures (passed c.from_residual.result _ _ c.from_residual.ensures.1 refl) refl
           (λ l m u h. (_, refl));
-      kept = untouched_same _ c.from-residual.result _ _ refl refl;
+      kept = untouched_same _ c.from_residual.result _ _ refl refl;
     }
 
-pub returns-in-err-in-call : goal.returns-in-err-in-call
-returns-in-err-in-call g c =
+pub returns-in_err-in_call : goal.returns-in_err-in_call
+returns-in_err-in_call g c =
     record {
-      exact = text_unfit (view g.S.Store.memory c.args.self.now) (length c.args.work.now) c.args.r c.args.bytes.now c.in-ok-admit.ensures
-          c.fit.result c.in-err-in-call.field-0.0 c.from-residual-in-err-in-call.result c.fit.ensures.exact c.in-err-in-call.ensures
-          (passed c.from-residual-in-err-in-call.result (told c.in-err-in-call.field-0.0) _ c.from-residual-in-err-in-call.ensures.1 refl);
-      kept = untouched_same _ c.from-residual-in-err-in-call.result _ _ refl refl;
+      exact = text_unfit (view g.S.Store.memory c.args.self.now) (length c.args.work.now) c.args.r c.args.bytes.now c.in_ok-admit.ensures
+          c.fit.result c.in_err-in_call.field-0.0 c.from_residual-in_err-in_call.result c.fit.ensures.exact c.in_err-in_call.ensures
+          (passed c.from_residual-in_err-in_call.result (told c.in_err-in_call.field-0.0) _ c.from_residual-in_err-in_call.ensures.1 refl);
+      kept = untouched_same _ c.from_residual-in_err-in_call.result _ _ refl refl;
     }
 
-pub returns-in-err-take-list : goal.returns-in-err-take-list
-returns-in-err-take-list g c =
-    let fit = sym c.fit.ensures.exact ∙ raised_gave c.fit.result Word.Text c.args.r tt c.in-ok-in-call.ensures in
-    let short = c.in-err-take-list.ensures in
+pub returns-in_err-take_list : goal.returns-in_err-take_list
+returns-in_err-take_list g c =
+    let fit = sym c.fit.ensures.exact ∙ raised_gave c.fit.result Word.Text c.args.r tt c.in_ok-in_call.ensures in
+    let short = c.in_err-take_list.ensures in
     record {
-      exact = text_short (view g.S.Store.memory c.args.self.now) (length c.args.work.now) c.args.r c.args.bytes.now c.in-ok-admit.ensures fit
-          c.in-err-take-list.field-0.0 c.from-residual-in-err-take-list.result short.0 short.1
-          (passed c.from-residual-in-err-take-list.result _ _ c.from-residual-in-err-take-list.ensures.1 refl);
-      kept = untouched_same _ c.from-residual-in-err-take-list.result _ _ refl refl;
+      exact = text_short (view g.S.Store.memory c.args.self.now) (length c.args.work.now) c.args.r c.args.bytes.now c.in_ok-admit.ensures fit
+          c.in_err-take_list.field-0.0 c.from_residual-in_err-take_list.result short.0 short.1
+          (passed c.from_residual-in_err-take_list.result _ _ c.from_residual-in_err-take_list.ensures.1 refl);
+      kept = untouched_same _ c.from_residual-in_err-take_list.result _ _ refl refl;
     }
 
 pub returns-then-bytes-eq0 : goal.returns-then-bytes-eq0
 returns-then-bytes-eq0 g c =
-    let fit = sym c.fit.ensures.exact ∙ raised_gave c.fit.result Word.Text c.args.r tt c.in-ok-in-call.ensures in
+    let fit = sym c.fit.ensures.exact ∙ raised_gave c.fit.result Word.Text c.args.r tt c.in_ok-in_call.ensures in
     record {
-      exact = text_empty (view g.S.Store.memory c.args.self.now) (length c.args.work.now) c.args.r c.args.bytes.now c.plain.result c.in-ok-admit.ensures fit
-          c.in-ok-take-list.ensures c.if-bytes-eq0.true c.plain.ensures;
+      exact = text_empty (view g.S.Store.memory c.args.self.now) (length c.args.work.now) c.args.r c.args.bytes.now c.plain.result c.in_ok-admit.ensures fit
+          c.in_ok-take_list.ensures c.if-bytes-eq0.true c.plain.ensures;
       kept = tt;
     }
 
-pub returns-in-err-in-call-2 : goal.returns-in-err-in-call-2
-returns-in-err-in-call-2 g c =
+pub returns-in_err-in_call-2 : goal.returns-in_err-in_call-2
+returns-in_err-in_call-2 g c =
     let v = view g.S.Store.memory c.args.self.now in
-    let w = view g.S.Store.memory c.put-text.new.self in
+    let w = view g.S.Store.memory c.put_text.new.self in
     let t = c.args.bytes.now in
-    let gave = raised_gave c.fit.result Word.Text c.args.r tt c.in-ok-in-call.ensures in
+    let gave = raised_gave c.fit.result Word.Text c.args.r tt c.in_ok-in_call.ensures in
     let fit = sym c.fit.ensures.exact ∙ gave in
     let some : 1 ≤ length c.args.bytes.now = omega (arith, c.if-bytes-eq0.false) in
-    let long = c.in-ok-take-list.ensures in
-    let q = raised_since c.put-text.result Word.Text c.args.r c.in-err-in-call-2.field-0.0 c.in-err-in-call-2.ensures in
+    let long = c.in_ok-take_list.ensures in
+    let q = raised_since c.put_text.result Word.Text c.args.r c.in_err-in_call-2.field-0.0 c.in_err-in_call-2.ensures in
     let gives : (m : Model) (a : Arena) → Shown m a v → Enters m a v c.args.r t w (Err q.0) =
-    λ m a s. subst (Enters m a v c.args.r t w) q.1 (c.put-text.ensures m a s long some (fit_few v.memory.figures t fit) (c.fit.ensures.taken gave)) in
-    let is : c.from-residual-in-err-in-call-2.result ≡ Err (fault_of (Call.text c.args.r t) q.0) =
-    passed c.from-residual-in-err-in-call-2.result (told c.in-err-in-call-2.field-0.0) _ c.from-residual-in-err-in-call-2.ensures.1 refl
+    λ m a s. subst (Enters m a v c.args.r t w) q.1 (c.put_text.ensures m a s long some (fit_few v.memory.figures t fit) (c.fit.ensures.taken gave)) in
+    let is : c.from_residual-in_err-in_call-2.result ≡ Err (fault_of (Call.text c.args.r t) q.0) =
+    passed c.from_residual-in_err-in_call-2.result (told c.in_err-in_call-2.field-0.0) _ c.from_residual-in_err-in_call-2.ensures.1 refl
     ∙ ap (λ (x : Raised). Err (told x)) q.2 in
     record {
-      exact = text_full v (length c.args.work.now) c.args.r t c.in-ok-admit.ensures fit long some w q.0 c.from-residual-in-err-in-call-2.result is gives;
-      kept = untouched_full v w (Call.text c.args.r t) (string_cells v.memory.figures.places (length t)) c.from-residual-in-err-in-call-2.result q.0 _ _ is (λ m a s. (gives m a s).1);
+      exact = text_full v (length c.args.work.now) c.args.r t c.in_ok-admit.ensures fit long some w q.0 c.from_residual-in_err-in_call-2.result is gives;
+      kept = untouched_full v w (Call.text c.args.r t) (string_cells v.memory.figures.places (length t)) c.from_residual-in_err-in_call-2.result q.0 _ _ is (λ m a s. (gives m a s).1);
     }
 
 pub returns : goal.returns
 returns g c =
     let v = view g.S.Store.memory c.args.self.now in
-    let w = view g.S.Store.memory c.put-text.new.self in
+    let w = view g.S.Store.memory c.put_text.new.self in
     let t = c.args.bytes.now in
-    let gave = raised_gave c.fit.result Word.Text c.args.r tt c.in-ok-in-call.ensures in
+    let gave = raised_gave c.fit.result Word.Text c.args.r tt c.in_ok-in_call.ensures in
     let fit = sym c.fit.ensures.exact ∙ gave in
     let some : 1 ≤ length c.args.bytes.now = omega (arith, c.if-bytes-eq0.false) in
-    let long = c.in-ok-take-list.ensures in
-    let q = raised_gave c.put-text.result Word.Text c.args.r tt c.in-ok-in-call-2.ensures in
+    let long = c.in_ok-take_list.ensures in
+    let q = raised_gave c.put_text.result Word.Text c.args.r tt c.in_ok-in_call-2.ensures in
     record {
-      exact = text_entered v (length c.args.work.now) c.args.r t c.in-ok-admit.ensures fit long some w
-          (λ m a s. subst (Enters m a v c.args.r t w) q (c.put-text.ensures m a s long some (fit_few v.memory.figures t fit) (c.fit.ensures.taken gave)));
+      exact = text_entered v (length c.args.work.now) c.args.r t c.in_ok-admit.ensures fit long some w
+          (λ m a s. subst (Enters m a v c.args.r t w) q (c.put_text.ensures m a s long some (fit_few v.memory.figures t fit) (c.fit.ensures.taken gave)));
       kept = tt;
     }
