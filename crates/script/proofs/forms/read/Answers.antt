@@ -3,8 +3,8 @@ use Rattle.script.specs.Scripts.{too_many_bytes}
 use Rattle.script.proofs.Back.{exactly_one, read_back}
 use Rattle.script.proofs.forms.read.Goals as goal
 
-pub returns-then-script-gt-MOST-BYTES : goal.returns-then-script-gt-MOST-BYTES
-returns-then-script-gt-MOST-BYTES c = record {
+pub returns-then-script-gt-MOST_BYTES : goal.returns-then-script-gt-MOST_BYTES
+returns-then-script-gt-MOST_BYTES c = record {
   exact = too_many_bytes (omega arith);
   one = exactly_one c.args.script.now;
   back = λ fs law e. absurd (omega (arith, law.bytes, ap length e));

@@ -76,7 +76,7 @@ returns-in-Some-classify c =
     let k = c.args.self.now.column in
     let xs = c.args.self.now.rest.now in
     let n = c.front-n-in_default-first.result in
-    let e = run_next_lem l k xs c.in-Some.first c.in-Some.rest.now c.in-Some.ensures (search rules) (search rules) (search rules) (search rules)
+    let e = run_next_lem l k xs c.in-Some.first c.in-Some.rest.now c.in-Some.ensures (ne_eqb c.in-Some.first 10 (λ e. omega arith)) (ne_eqb c.in-Some.first 40 (λ e. omega arith)) (ne_eqb c.in-Some.first 41 (λ e. omega arith)) (ne_eqb c.in-Some.first 34 (λ e. omega arith))
     ∙ ap (λ (m : ℕ). found l k (run_token (take m xs)) l (k + m) (drop m xs)) (sym c.front-n-in_default-first.ensures) in
     took_by e
     (record { line = refl; column = refl; tok = c.in-Some-classify.ensures ∙ ap run_token c.split_off-run.ensures.part; line_after = c.split_off-run.ensures.line; column_after = c.split_off-run.ensures.column; rest = c.split_off-run.ensures.rest })
@@ -86,6 +86,6 @@ returns-in-None c =
     let l = c.args.self.now.line in
     let k = c.args.self.now.column in
     let xs = c.args.self.now.rest.now in
-    let e = run_next_lem l k xs c.in-Some.first c.in-Some.rest.now c.in-Some.ensures (search rules) (search rules) (search rules) (search rules)
+    let e = run_next_lem l k xs c.in-Some.first c.in-Some.rest.now c.in-Some.ensures (ne_eqb c.in-Some.first 10 (λ e. omega arith)) (ne_eqb c.in-Some.first 40 (λ e. omega arith)) (ne_eqb c.in-Some.first 41 (λ e. omega arith)) (ne_eqb c.in-Some.first 34 (λ e. omega arith))
     ∙ ap (λ (m : ℕ). found l k (run_token (take m xs)) l (k + m) (drop m xs)) (sym c.front-n-in_default-first.ensures) in
     (ap no_token_at (sym e), ap (λ (g : Next). g.tok) e ∙ ap run_token (sym c.split_off-run.ensures.part) ∙ c.in-None.ensures)

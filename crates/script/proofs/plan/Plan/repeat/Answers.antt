@@ -12,11 +12,11 @@ returns-then-self c full ss h at low =
     repeat_over c.args.self.now.over (vec_items c.args.self.now.steps) full ss c.args.start c.args.count
     (⊎_elim (λ e. inl e) (λ w. inr (omega (arith, w.1))) c.then-self.either) h at low
 
-pub returns-then-not-has-room : goal.returns-then-not-has-room
-returns-then-not-has-room c full ss h at low =
+pub returns-then-not-has_room : goal.returns-then-not-has_room
+returns-then-not-has_room c full ss h at low =
     let near : suc c.loop-turn.turn < c.args.count = omega arith in
     repeat_long c.args.self.now.over c.loop-turn.self.over (vec_items c.args.self.now.steps) (vec_items c.loop-turn.self.steps) full ss c.args.start c.loop-turn.turn c.args.count c.if-self.false c.loop-turn.invariant.1 h at near
-    (omega (arith, c.has-room.ensures.full c.if-not-has-room.true))
+    (omega (arith, c.has_room.ensures.full c.if-not-has_room.true))
 
 pub loop-turn-preserved : goal.loop-turn-preserved
 loop-turn-preserved c =
@@ -26,13 +26,13 @@ loop-turn-preserved c =
     let within : c.args.start ≤ c.len-end.result = omega arith in
     let all : c.len-end.result ≡ length base = omega arith in
     let t : suc n ≡ c.loop-turn.turn + 1 = omega arith in
-    let room = c.has-room.ensures.room c.if-not-has-room.false in
+    let room = c.has_room.ensures.room c.if-not-has_room.false in
     let cut : take (c.len-end.result - c.args.start) (drop c.args.start (vec_items c.loop-turn.self.steps)) ≡ part = ap (λ (z : List Step). take (c.len-end.result - c.args.start) (drop c.args.start z)) c.loop-turn.invariant.1 ∙ part_of base (copies n part) c.args.start c.len-end.result within all in (
       c.loop-turn.invariant.0,
-      c.in-ok-extend-from-within.ensures.items ∙ ap (λ (z : List Step). vec_items c.loop-turn.self.steps ++ z) cut ∙ ap (λ (z : List Step). z ++ part) c.loop-turn.invariant.1 ∙ append_assoc base (copies n part) part ∙ ap (λ (z : List Step). base ++ z) (copies_more n part) ∙ ap (λ (z : ℕ). base ++ copies z part) t,
-      (λ _. omega (arith, room, c.in-ok-extend-from-within.ensures.len)),
+      c.in_ok-extend_from_within.ensures.items ∙ ap (λ (z : List Step). vec_items c.loop-turn.self.steps ++ z) cut ∙ ap (λ (z : List Step). z ++ part) c.loop-turn.invariant.1 ∙ append_assoc base (copies n part) part ∙ ap (λ (z : List Step). base ++ z) (copies_more n part) ∙ ap (λ (z : ℕ). base ++ copies z part) t,
+      (λ _. omega (arith, room, c.in_ok-extend_from_within.ensures.len)),
       within,
-      omega (arith, c.in-ok-extend-from-within.ensures.len),
+      omega (arith, c.in_ok-extend_from_within.ensures.len),
     )
 
 pub returns : goal.returns
