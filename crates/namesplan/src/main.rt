@@ -25,7 +25,7 @@ fn bins_given(rt: &HostRuntime) -> anyhow::Result<u32> {
     match env::args(rt)?.nth(1) {
         Some(word) => match word.as_str().parse::<u32>() {
             Ok(bins) => Ok(bins),
-            Err(_) => Err(NO_BINS.into()),
+            Err(_) => Err(anyhow!("{NO_BINS}")),
         },
         None => Ok(DEFAULT_BINS),
     }
@@ -80,7 +80,7 @@ fn plan_or_error<S: Store>(
 ) -> anyhow::Result<Tally> {
     match plan_for(heap, store, names, bins) {
         Ok(tally) => Ok(tally),
-        Err(PlanFault::BadBins) => Err(NO_BINS.into()),
+        Err(PlanFault::BadBins) => Err(anyhow!("{NO_BINS}")),
         Err(PlanFault::TooMany) => Err(anyhow!("there are more than 1,048,576 names")),
         Err(PlanFault::NoMemory) => Err(anyhow!("memory is wanting")),
     }

@@ -12,8 +12,8 @@ returns c =
     let eight : 8 * c.args.cell + 8 - 8 * c.args.cell ≡ 8 = omega arith in
     let long : length c.pack.result ≡ 8 * c.args.cell + 8 - 8 * c.args.cell = (let l : length c.pack.result ≡ 8 = search rules in omega arith) in
     let fits : 8 * c.args.cell + (8 * c.args.cell + 8 - 8 * c.args.cell) ≤ length (vec_items c.args.bytes.now) = omega arith in
-    let again = put_again xs cs (8 * i) k long fits c.as-mut-slice.result.now c.copy-from-slice.new.self c.args.bytes.now.len
-    c.as-mut-slice.ensures.value c.args.bytes.now.ok.0 c.copy-from-slice.ensures.after in
+    let again = put_again xs cs (8 * i) k long fits c.as_mut_slice.result.now c.copy_from_slice.new.self c.args.bytes.now.len
+    c.as_mut_slice.ensures.value c.args.bytes.now.ok.0 c.copy_from_slice.ensures.after in
     record {
       wrote = rw again (put_descriptor xs cs i k long fits eight c.args.d c.pack.ensures);
       one = rw again (put_one 8 xs cs i k long fits eight);
