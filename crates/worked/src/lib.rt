@@ -37,7 +37,9 @@ mod tests {
         store.set_descriptor(0, MINUS_ONE)?;
         assert_eq!(rt; store.descriptor(0)?, MINUS_ONE);
         let bytes = store.into_bytes();
-        assert!(rt; bytes.as_slice() == &[0xff, 0xff, 0xff, 0xff, 0x10, 0x00, 0x00, 0x09, 7, 7, 7]);
+        assert!(rt;
+            bytes.as_slice() == [0xff, 0xff, 0xff, 0xff, 0x10, 0x00, 0x00, 0x09, 7, 7, 7].as_slice()
+        );
         Ok(())
     }
 
@@ -49,7 +51,9 @@ mod tests {
         store.move_cell(1, 0)?;
         assert_eq!(rt; store.character(0, 7)?, 255);
         let bytes = store.into_bytes();
-        assert!(rt; bytes.as_slice() == &[65, 0, 0, 0, 0, 0, 0, 255, 65, 0, 0, 0, 0, 0, 0, 255]);
+        assert!(rt;
+            bytes.as_slice() == [65, 0, 0, 0, 0, 0, 0, 255, 65, 0, 0, 0, 0, 0, 0, 255].as_slice()
+        );
         Ok(())
     }
 
@@ -89,7 +93,7 @@ mod tests {
         store.set_descriptor(0, PLUS_ONE)?;
         assert_eq!(rt; store.descriptor(0)?, PLUS_ONE);
         let words = store.into_words();
-        assert!(rt; words.as_slice() == &[25_769_803_777, u64::MAX]);
+        assert!(rt; words.as_slice() == [25_769_803_777, u64::MAX].as_slice());
         Ok(())
     }
 
@@ -102,7 +106,7 @@ mod tests {
         assert_eq!(rt; store.character(1, 0)?, b'A');
         assert_eq!(rt; store.character(1, 1)?, b' ');
         let words = store.into_words();
-        assert!(rt; words.as_slice() == &[0x0840_0000_0000_003f, 0x0840_0000_0000_003f]);
+        assert!(rt; words.as_slice() == [0x0840_0000_0000_003f, 0x0840_0000_0000_003f].as_slice());
         Ok(())
     }
 
