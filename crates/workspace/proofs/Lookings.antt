@@ -1,6 +1,6 @@
 -- What kind and read answer.
 use Rattle.std.proofs.Common.{◌≡◌, ℕ, ◌<◌, ◌≤◌, cond, leb, List, [], ◌∷◌, ◌++◌, length, take, drop, ℤ, pos, Some, None, Ok, Err, Option, Result, sym, refl, ap, ◌∙◌, subst, ⊎_elim, arith}
-use Rattle.std.specs.List.{AllByRecursion as All}
+use Rattle.std.specs.List.{AllByRecursion}
 use Rattle.std.proofs.lemmas.List.{take_at, drop_at}
 use Rattle.std.proofs.lemmas.Bool.{cases_lt, le-leb, lt-leb, cond-true, cond-false}
 use Rattle.cells.specs.Meaning.{Memory}
@@ -33,7 +33,7 @@ pub by_nothing : (v : View) (c : Call) (x : Answer) (w : View) → Open v → ((
 by_nothing v c x w is none = record { shut = λ e. not_shut v.state is.0 is.1 is.2 e; by_rules = λ m a s. absurd (none m a s) }
 
 -- The pair that kind answers.
-pub kind_gives : (v : View) (r t : ℕ) (z : ℤ) → Open v × All (λ k. k ≤ 31) (r ∷ []) → ((m : Model) (a : Arena) → Shown m a v → kind_of m (register m r) ≡ pos t ∷ z ∷ []) →
+pub kind_gives : (v : View) (r t : ℕ) (z : ℤ) → Open v × AllByRecursion (λ k. k ≤ 31) (r ∷ []) → ((m : Model) (a : Arena) → Shown m a v → kind_of m (register m r) ≡ pos t ∷ z ∷ []) →
     Exact v (Call.kind r) (ok (pair (t, z)) []) v
 kind_gives v r t z admitted is =
     by_giving v v (Call.kind r) (r ∷ []) (pair (t, z)) [] admitted tt refl
@@ -114,7 +114,7 @@ pub opened_leaves : (v : View) (r : Result ℕ WorkspaceFault) (before after : L
 opened_leaves v r before after is left = record { shut = λ e. not_shut v.state is.0 is.1 is.2 e; by_rules = left }
 
 -- Reading out the string that register r holds.
-module _ (v : View) (r title : ℕ) (before after : List ℕ) (res : Result (Option ℕ) HeapFault) (w : Word) (k : ℕ) (admitted : Open v × All (λ j. j ≤ 31) (r ∷ []))
+module _ (v : View) (r title : ℕ) (before after : List ℕ) (res : Result (Option ℕ) HeapFault) (w : Word) (k : ℕ) (admitted : Open v × AllByRecursion (λ j. j ≤ 31) (r ∷ []))
     (holds : is.Text title ≡ held (holding v r))
     (outs : (m : Model) (a : Arena) (t : Text) → Shows m a v.memory → At m a v.memory (string t) title → ReadOut t before after res) where
   out_of : {m : Model} {a : Arena} → Shown m a v → (t : Text) × (register m r ≡ text t) × ReadOut t before after res

@@ -1,6 +1,6 @@
 -- The call make, by what its checks answer.
 use Rattle.std.proofs.Common.{◌≡◌, ℕ, ◌+◌, ◌<◌, ◌≤◌, Bool, true, ◌&&◌, leb, [], ◌∷◌, Ok, Err, Result, refl, ap, ◌∙◌, inl, inr, arith}
-use Rattle.std.specs.List.{AllByRecursion as All}
+use Rattle.std.specs.List.{AllByRecursion}
 use Rattle.std.proofs.lemmas.Bool.{cases_Bool, cond-true, cond-false, and_parts, leb-true}
 use Rattle.rules.specs.declared.Layer.{Layer}
 use Rattle.rules.specs.declared.Word.{Word}
@@ -41,7 +41,7 @@ bounds_of n t h =
     let b = and_parts (leb 1 n) (leb n 4096) c.0 in
     (leb-true 1 n b.0, leb-true n 4096 b.1, leb-true 16 t c.1, leb-true t 255 d.1)
 
-module _ (v : View) (work r n t : ℕ) (admitted : ((b : ℕ) × (k : ℕ) × (v.state ≡ Opened b k)) × All (λ x. x ≤ 31) (r ∷ [])) where
+module _ (v : View) (work r n t : ℕ) (admitted : ((b : ℕ) × (k : ℕ) × (v.state ≡ Opened b k)) × AllByRecursion (λ x. x ≤ 31) (r ∷ [])) where
   -- The check of the heap refuses.
   pub make_unfit : (f : Result (Unit {0}) HeapFault) (x : Raised) (q : Result (Unit {0}) WorkspaceFault) → f ≡ fit_make n t → Err x ≡ raised f Word.Make r → q ≡ Err (told x) →
       ExactWith v work (Call.make r n t) (answered nothing q) v

@@ -1,6 +1,6 @@
 -- The calls on fields, from what the heap answers.
 use Rattle.std.proofs.Common.{◌≡◌, ℕ, ◌+◌, ◌<◌, ◌≤◌, true, false, cond, ◌&&◌, leb, ◌⊎◌, List, [], ◌∷◌, set, pos, Ok, Err, Result, sym, refl, ap, ◌∙◌, subst, inl, inr, arith}
-use Rattle.std.specs.List.{AllByRecursion as All}
+use Rattle.std.specs.List.{AllByRecursion}
 use Rattle.std.proofs.lemmas.Bool.{le-leb, lt-leb, cases_lt, and_from, and_left, and_right, cond-true, cond-false}
 use Rattle.cells.specs.declared.Descriptor.{Descriptor}
 use Rattle.cells.specs.Meaning.{Memory}
@@ -25,7 +25,7 @@ use Rattle.workspace.proofs.Takings.{name_fault, name_is, name_not, thing_fault,
 
 -- The workspace is open, and the registers are there.
 abbrev pub Admitted : View → List ℕ → Type 0
-Admitted v rs = ((b : ℕ) × (n : ℕ) × (v.state ≡ Opened b n)) × All (λ r. r ≤ 31) rs
+Admitted v rs = ((b : ℕ) × (n : ℕ) × (v.state ≡ Opened b n)) × AllByRecursion (λ r. r ≤ 31) rs
 
 -- What `fetch_field` promises of a cell.
 abbrev pub Fetches : View → ℕ → Result Descriptor HeapFault → Type 0

@@ -1,6 +1,6 @@
 -- How a call that needs no cells is shown to be exact: by its refusal, or by its answer and the model after it.
 use Rattle.std.proofs.Common.{◌≡◌, ℕ, ◌<◌, ◌≤◌, Bool, true, false, ◌≢◌, ◌⊎◌, List, [], ◌∷◌, length, get_or, set, ℤ, pos, IsErrAnd, Ok, Err, Result, sym, refl, ap, ◌∙◌, subst, inl, inr, arith, length-set}
-use Rattle.std.specs.List.{AllByRecursion as All}
+use Rattle.std.specs.List.{AllByRecursion}
 use Rattle.std.proofs.lemmas.List.{get_or-set_same, get_or-set_other}
 use Rattle.std.proofs.lemmas.Result.{err_from_is_err_and}
 use Rattle.std.proofs.lemmas.Bool.{cases_eq}
@@ -130,7 +130,7 @@ at_door v c rs f r e (inr h) is free first_is inner =
     ∙ ap (λ (y : WorkspaceFault). (no (report y), m)) (sym q.4))
 
 -- Past the door: the call answers, and the model after it is shown in the same arena.
-pub by_storing : (v w : View) (c : Call) (rs : List ℕ) (zs : List ℤ) (t : Text) → ((b : ℕ) × (n : ℕ) × (v.state ≡ Opened b n)) × All (λ r. r ≤ 31) rs → Needless c →
+pub by_storing : (v w : View) (c : Call) (rs : List ℕ) (zs : List ℤ) (t : Text) → ((b : ℕ) × (n : ℕ) × (v.state ≡ Opened b n)) × AllByRecursion (λ r. r ≤ 31) rs → Needless c →
     ((m : Model) (a : Arena) → Shown m a v →
     (k : Model) × ((l : Limits) (used : ℕ) (reached : Thing → Bool) → act l m used reached c ≡ registers_then rs (give zs t k)) × Shown k a w × (w.memory.figures ≡ v.memory.figures)) →
     Exact v c (ok zs t) w
@@ -145,7 +145,7 @@ by_storing v w c rs zs t admitted free gives =
     ))
 
 -- The same for a call that writes no cell.
-pub by_giving : (v w : View) (c : Call) (rs : List ℕ) (zs : List ℤ) (t : Text) → ((b : ℕ) × (n : ℕ) × (v.state ≡ Opened b n)) × All (λ r. r ≤ 31) rs → Needless c →
+pub by_giving : (v w : View) (c : Call) (rs : List ℕ) (zs : List ℤ) (t : Text) → ((b : ℕ) × (n : ℕ) × (v.state ≡ Opened b n)) × AllByRecursion (λ r. r ≤ 31) rs → Needless c →
     w.memory.figures ≡ v.memory.figures →
     ((m : Model) (a : Arena) → Shown m a v →
     (k : Model) × ((l : Limits) (used : ℕ) (reached : Thing → Bool) → act l m used reached c ≡ registers_then rs (give zs t k)) × Shown k a w) →
@@ -154,7 +154,7 @@ by_giving v w c rs zs t admitted free same gives = by_storing v w c rs zs t admi
 
 -- Past the door: the call refuses, and nothing has changed.
 pub by_refusing : {T : Type 0} (v : View) (c : Call) (rs : List ℕ) (f : T → List ℤ) (r : Result T WorkspaceFault) (e : WorkspaceFault) →
-    ((b : ℕ) × (n : ℕ) × (v.state ≡ Opened b n)) × All (λ x. x ≤ 31) rs → r ≡ Err e → Needless c → word c ≡ e.call →
+    ((b : ℕ) × (n : ℕ) × (v.state ≡ Opened b n)) × AllByRecursion (λ x. x ≤ 31) rs → r ≡ Err e → Needless c → word c ≡ e.call →
     ((m : Model) (a : Arena) → Shown m a v → (l : Limits) (used : ℕ) (reached : Thing → Bool) →
     act l m used reached c ≡ registers_then rs (refuse (report e).number (report e).layer (report e).register (report e).place)) →
     Exact v c (answered f r) v

@@ -1,6 +1,6 @@
 -- The call text, by what its checks answer.
 use Rattle.std.proofs.Common.{◌≡◌, ℕ, suc, ◌+◌, ◌<◌, ◌≤◌, Bool, cond, leb, ◌≢◌, List, [], ◌∷◌, length, set, Ok, Err, Result, sym, refl, ap, ◌∙◌, subst, inl, inr, arith}
-use Rattle.std.specs.List.{AllByRecursion as All}
+use Rattle.std.specs.List.{AllByRecursion}
 use Rattle.std.proofs.lemmas.Bool.{cases_Bool, cond-true, cond-false, leb-true}
 use Rattle.cells.specs.declared.Descriptor.{Descriptor}
 use Rattle.cells.specs.declared.StoreFault.TheVariants.{BadCode}
@@ -85,7 +85,7 @@ enter_plain : (m : Model) (r need : ℕ) (t : Text) → Unrefused (enter m r nee
 enter_plain m r need [] = tt
 enter_plain m r need (x ∷ xs) = tt
 
-module _ (v : View) (work r : ℕ) (t : Text) (admitted : ((b : ℕ) × (k : ℕ) × (v.state ≡ Opened b k)) × All (λ x. x ≤ 31) (r ∷ [])) where
+module _ (v : View) (work r : ℕ) (t : Text) (admitted : ((b : ℕ) × (k : ℕ) × (v.state ≡ Opened b k)) × AllByRecursion (λ x. x ≤ 31) (r ∷ [])) where
   abbrev cells_for : ℕ
   cells_for = string_cells v.memory.figures.places (length t)
 
@@ -172,7 +172,7 @@ module _ (v : View) (work r : ℕ) (t : Text) (admitted : ((b : ℕ) × (k : ℕ
             ])
 
 -- No characters: the register is null.
-pub text_empty : (v : View) (work r : ℕ) (t : Text) (d : Descriptor) (admitted : ((b : ℕ) × (k : ℕ) × (v.state ≡ Opened b k)) × All (λ x. x ≤ 31) (r ∷ [])) →
+pub text_empty : (v : View) (work r : ℕ) (t : Text) (d : Descriptor) (admitted : ((b : ℕ) × (k : ℕ) × (v.state ≡ Opened b k)) × AllByRecursion (λ x. x ≤ 31) (r ∷ [])) →
     fit_text v.memory.figures t ≡ Ok tt → v.memory.figures.cells ≤ work → length t ≡ 0 → d ≡ null_desc →
     ExactWith v work (Call.text r t) (ok [] []) (record { memory = v.memory; registers = set v.registers r d; state = v.state })
 text_empty v work r (x ∷ xs) d admitted fit long none is = absurd (omega arith)

@@ -1,6 +1,6 @@
 -- How a call with a work list is shown to be exact.
 use Rattle.std.proofs.Common.{◌≡◌, ℕ, ◌+◌, ◌<◌, ◌≤◌, Bool, leb, ◌≢◌, List, [], ◌∷◌, length, get_or, ℤ, Ok, Err, Result, sym, refl, ap, ◌∙◌, subst, inl, inr, arith}
-use Rattle.std.specs.List.{AllByRecursion as All}
+use Rattle.std.specs.List.{AllByRecursion}
 use Rattle.std.proofs.lemmas.Bool.{lt-leb, cond-false}
 use Rattle.rules.specs.declared.Layer.{Layer}
 use Rattle.rules.specs.declared.Word.{Word}
@@ -73,7 +73,7 @@ module _ (v : View) (work : ℕ) (c : Call) (rs : List ℕ) where
       ap (λ (b : Act). settle l m used c (work_then l work c b)) (k.1 ∙ registers_beyond rs k.0 q.0 q.1 q.2 q.3)
       ∙ ap (λ (y : WorkspaceFault). (no (report y), m)) (sym q.4))
 
-  module _ (admitted : ((b : ℕ) × (n : ℕ) × (v.state ≡ Opened b n)) × All (λ x. x ≤ 31) rs) where
+  module _ (admitted : ((b : ℕ) × (n : ℕ) × (v.state ≡ Opened b n)) × AllByRecursion (λ x. x ≤ 31) rs) where
     -- A check past the door refuses.
     pub by_refusing_with : {T : Type 0} (f : T → List ℤ) (r : Result T WorkspaceFault) (e : WorkspaceFault) → r ≡ Err e → (report e).number ≢ 16 → word c ≡ e.call →
         ((m : Model) (a : Arena) → Shown m a v → (used : ℕ) (reached : Thing → Bool) →

@@ -8,7 +8,7 @@ use Rattle.rules.specs.Calls.{Limits, Call, make, text, collect, Refusal, Answer
 use Rattle.rules.specs.Opening.{closed}
 use Rattle.rules.specs.Arena.{Arena, Codes, Shows, desc}
 use Rattle.arena.specs.Growth.{arena_with_block, arena_with_text}
-use Rattle.std.specs.List.{AllByRecursion as All}
+use Rattle.std.specs.List.{AllByRecursion}
 use Rattle.rules.specs.declared.Layer.{Layer}
 use Rattle.rules.specs.declared.Word.{Word}
 use Rattle.workspace.specs.declared.faults.Cause.TheVariants.{Closed, NoRegister}
@@ -125,7 +125,7 @@ pair x = pos x.0 ∷ x.1 ∷ []
 
 -- The check that comes first in every call: the workspace is open, and each register is there; the first beyond is reported.
 abbrev pub Admits : State → Word → List ℕ → Result (Unit {0}) WorkspaceFault → Type 0
-Admits s w rs (Ok u) = ((b : ℕ) × (n : ℕ) × (s ≡ Opened b n)) × All (λ r. r ≤ 31) rs
+Admits s w rs (Ok u) = ((b : ℕ) × (n : ℕ) × (s ≡ Opened b n)) × AllByRecursion (λ r. r ≤ 31) rs
 Admits s w rs (Err f) =
     ((s ≡ Shut) × (f ≡ record { cause = Closed; call = w; register = slice_index rs 0 }))
     ⊎ (((b : ℕ) × (n : ℕ) × (s ≡ Opened b n)) × ((i : ℕ) × (i < length rs) × ((j : ℕ) → j < i → slice_index rs j ≤ 31) × (31 < slice_index rs i) × (f ≡ record { cause = NoRegister; call = w; register = slice_index rs i })))
