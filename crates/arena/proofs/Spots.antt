@@ -1,5 +1,5 @@
 -- The spot of a new string in its chain.
-use Rattle.std.proofs.Common.{◌≡◌, ℕ, ◌+◌, ◌-◌, ◌<◌, ◌≤◌, ◌⊎◌, List, [], ◌∷◌, length, pos, sym, refl, ap, subst, inl, inr, ⊎_elim, mod-lt, div-le_self, arith}
+use Rattle.std.proofs.Common.{◌≡◌, ℕ, ◌+◌, ◌<◌, ◌≤◌, ◌⊎◌, List, [], ◌∷◌, length, pos, sym, refl, ap, subst, inl, inr, ⊎_elim, mod-lt, div-le_self, arith}
 use native.Mathlib.Decide.{dec_lt}
 use Rattle.std.proofs.lemmas.Bool.{cond-true, cond-false, lt-ltb, le-ltb}
 use Rattle.cells.specs.declared.Descriptor.{Descriptor}

@@ -1,9 +1,8 @@
 -- Names without repetition, one more name at a time.
-use Rattle.std.proofs.Common.{◌≡◌, ℕ, ◌+◌, ◌<◌, ◌≤◌, Bool, true, false, List, [], ◌∷◌, ◌++◌, length, get_or, take, sym, refl, ap, ◌∙◌, Bor}
+use Rattle.std.proofs.Common.{◌≡◌, ℕ, ◌+◌, ◌<◌, ◌≤◌, Bool, true, false, List, [], ◌∷◌, ◌++◌, length, get_or, take, sym, ap, ◌∙◌, Bor}
 use Rattle.std.proofs.lemmas.List.{length-map, get_or-map, map_push, take_all}
 use Rattle.std.proofs.lemmas.List.Sums.{fold_more}
 use Rattle.std.proofs.lemmas.Bool.{cond-true, cond-false}
-use Rattle.rules.specs.Model.{Text}
 use Rattle.plan.specs.Names.{texts, has_text, with_new, distinct}
 
 module _ (ns : List (Bor (List ℕ))) (i : ℕ) (d : Bor (List ℕ)) (seen : List (Bor (List ℕ))) (so_far : texts seen ≡ distinct (take i (texts ns))) where

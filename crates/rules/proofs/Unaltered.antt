@@ -2,7 +2,7 @@
 use Rattle.std.proofs.Common.{◌≡◌, ℕ, ◌+◌, Bool, true, false, cond, leb, List, [], ℤ, sym, refl, ap, ◌∙◌, arith}
 use Rattle.rules.specs.Lists.{total}
 use Rattle.rules.specs.Model.{Text, Model, size, has}
-use Rattle.rules.specs.Calls.{Limits, Call, Refusal, Answer, ok, no, Act, refuse, give, want, act, Outcome, settle, Step}
+use Rattle.rules.specs.Calls.{Limits, Call, Refusal, Answer, ok, no, Act, refuse, give, want, act, Outcome, settle}
 use Rattle.rules.specs.Compared.{Unaltered}
 
 given_not_refused : (zs : List ℤ) (t : Text) (f : Refusal) → ok zs t ≡ no f → ⊥

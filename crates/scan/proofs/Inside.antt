@@ -1,7 +1,7 @@
 -- A bracket that opens inside a `times`.
-use Rattle.std.proofs.Common.{◌≡◌, ℕ, ◌<◌, Bool, true, false, cond, List, [], ◌∷◌, length, IfOk, Some, None, Ok, Err, Option, Result, sym, refl, ap, ◌∙◌, arith}
+use Rattle.std.proofs.Common.{◌≡◌, ℕ, ◌<◌, Bool, true, false, cond, List, [], ◌∷◌, length, IfOk, Some, None, Ok, Err, Result, refl, ap, arith}
 use Rattle.scan.specs.declared.types.ReaderFault.{ReaderFault}
-use Rattle.scan.specs.Tokens.{Tok, next, next_here, opens, closes, numeral, word, text, line_end, none}
+use Rattle.scan.specs.Tokens.{Tok, next, next_here}
 use Rattle.scan.specs.Words.{is_opens, is_closes}
 use Rattle.scan.specs.Taking.{inside_of, Picks}
 use Rattle.scan.proofs.Shorter.{next_shorter}

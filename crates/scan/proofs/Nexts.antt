@@ -1,9 +1,8 @@
 -- The next token, by the first byte.
-use Rattle.std.proofs.Common.{◌≡◌, ℕ, suc, ◌+◌, ◌<◌, ◌≤◌, Bool, true, false, cond, eqb, List, [], ◌∷◌, length, get_or, take, drop, sym, refl, ap, ◌∙◌, subst, arith}
+use Rattle.std.proofs.Common.{◌≡◌, ℕ, suc, ◌+◌, Bool, true, false, cond, eqb, List, [], ◌∷◌, take, drop, sym, ap, ◌∙◌, subst, arith}
 use Rattle.std.specs.List.{prefix_len}
-use Rattle.std.proofs.lemmas.Bool.{ne_eqb}
 use Rattle.scan.specs.declared.types.Placed.{Placed}
-use Rattle.scan.specs.Tokens.{Next, Tok, opens, closes, line_end, none, text, found, text_next, run_next, next_here, printable, unparted, closed}
+use Rattle.scan.specs.Tokens.{Next, opens, closes, line_end, none, text, found, text_next, run_next, next_here, printable, unparted, closed}
 use Rattle.scan.specs.Taking.{Took}
 
 module _ (l c : ℕ) (xs : List ℕ) where

@@ -1,9 +1,9 @@
 -- A reading comes to one outcome, and to no other.
 use Rattle.std.proofs.Common.{◌≡◌, ℕ, zero, suc, ◌≤◌, ◌≢◌, List, [], ◌∷◌, length, Some, None, Option, sym, refl, ap, ◌∙◌, subst, arith}
 use Rattle.scan.proofs.Shorter.{next_shorter}
-use Rattle.scan.specs.Tokens.{Tok, opens, closes, numeral, word, text, line_end, none, Next, next, next_here}
+use Rattle.scan.specs.Tokens.{Tok, opens, closes, numeral, word, text, line_end, none, next, next_here}
 use Rattle.scan.specs.Words.{Kind, a_number, a_cell_count, a_signed, a_text, a_layout, Said, argument}
-use Rattle.scan.specs.Forms.{Open, bottom, times, State, start, opened, counting, arguing, over, fit, Outcome, done, refused, Reads, finished, goes, unread, unfit, unfit_at}
+use Rattle.scan.specs.Forms.{bottom, times, State, start, opened, counting, arguing, over, fit, Outcome, done, refused, Reads, finished, goes, unread, unfit, unfit_at}
 
 no_argument : (κ : Kind) → argument κ none ≡ None
 no_argument a_number = refl

@@ -1,11 +1,11 @@
 -- Every token of a script that is not at its end takes at least one byte.
-use Rattle.std.proofs.Common.{◌≡◌, ℕ, suc, ◌+◌, ◌-◌, ◌<◌, ◌≤◌, Bool, true, false, cond, not, ◌||◌, eqb, ◌⊎◌, List, [], ◌∷◌, length, take, drop, IfOk, Ok, Err, Option, Result, sym, refl, ap, ◌∙◌, subst, inl, inr, ⊎_elim, one-add, arith, length-drop}
+use Rattle.std.proofs.Common.{◌≡◌, ℕ, suc, ◌+◌, ◌<◌, ◌≤◌, Bool, true, false, cond, not, ◌||◌, eqb, ◌⊎◌, List, [], ◌∷◌, length, take, drop, IfOk, Ok, Err, Result, sym, refl, ap, ◌∙◌, subst, inl, inr, ⊎_elim, one-add, arith, length-drop}
 use Rattle.std.specs.List.{prefix_len}
 use Rattle.std.proofs.lemmas.Bool.{cond_both}
 use Rattle.scan.specs.declared.types.Placed.{Placed}
 use Rattle.scan.specs.declared.types.ReaderFault.{ReaderFault}
-use Rattle.scan.specs.Tokens.{Tok, Next, found, text_next, run_next, next_here, next, space, unparted, parting, printable, closed, opens, closes, line_end, none, text}
-use Rattle.scan.specs.Taking.{Picks, tok_of, Took, Takes}
+use Rattle.scan.specs.Tokens.{Next, found, text_next, run_next, next_here, next, space, unparted, printable, closed, opens, closes, line_end, none, text}
+use Rattle.scan.specs.Taking.{tok_of, Took, Takes}
 use Rattle.scan.specs.declared.types.Token.TheVariants as token
 
 run_shorter : (b : ℕ) (bs : List ℕ) → eqb b 32 ≡ false → eqb b 10 ≡ false → eqb b 40 ≡ false → eqb b 41 ≡ false → length (drop (prefix_len unparted (b ∷ bs)) (b ∷ bs)) ≤ length bs

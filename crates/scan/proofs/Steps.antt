@@ -3,8 +3,8 @@ use Rattle.std.proofs.Common.{◌≡◌, ℕ, ◌+◌, Bool, true, false, cond, 
 use Rattle.scan.specs.declared.types.ReaderFault.{ReaderFault}
 use Rattle.scan.specs.declared.types.Verb.{Verb}
 use mathlib.Core.Bool.{beq}
-use Rattle.scan.specs.Tokens.{Tok, Next, next}
-use Rattle.scan.specs.Words.{Kind, Arg, nat, int, chars, layout, a_number, a_cell_count, a_signed, a_text, a_layout, signed_of, text_of, word_of, layout_of, verb_of, is_open, is_opens, is_line_end, kinds, Said, says, bind, argument, natural_of, is_closes}
+use Rattle.scan.specs.Tokens.{Tok, next}
+use Rattle.scan.specs.Words.{Kind, Arg, nat, int, chars, layout, a_number, a_cell_count, a_signed, a_text, a_layout, signed_of, text_of, word_of, layout_of, verb_of, is_open, is_opens, is_line_end, kinds, Said, says, bind, natural_of, is_closes}
 use Rattle.scan.specs.Forms.{first, depth, copies, bottom, times, start, opened, counting, over, begun, State, Open, arguing, ended, add, fit, Reads, goes, unread, unfit, Outcome, refused}
 use Rattle.scan.specs.Taking.{some, head_of, head_word, headed, inside_of, outside_of, line_end_of, closes_of, Leads, Onward, Picks, Misses, misread, mistaken}
 

@@ -4,7 +4,6 @@ use Rattle.std.specs.Option.{ok_or, option_map}
 use Rattle.scan.specs.declared.types.Token.{Token}
 use Rattle.scan.specs.declared.types.Token.TheVariants as token
 use Rattle.scan.specs.declared.types.Placed.{Placed}
-use Rattle.scan.specs.declared.types.Spot.{Spot}
 use Rattle.scan.specs.declared.types.ReaderFault.{ReaderFault}
 use Rattle.scan.specs.declared.types.ReaderFault.TheVariants as fault
 use Rattle.scan.specs.Tokens.{Tok, opens, closes, numeral, word, text, line_end, none, Next}

@@ -1,5 +1,5 @@
 -- Every script comes to one outcome, and what is written is read back.
-use Rattle.std.proofs.Common.{◌≡◌, ℕ, ◌<◌, ◌≤◌, ◌⊎◌, List, [], map, length, Ok, Err, Result, sym, refl, ap, ◌∙◌, subst, inl, inr, ⊎_elim, arith, MatchResult}
+use Rattle.std.proofs.Common.{◌≡◌, ℕ, ◌≤◌, List, [], map, length, Ok, Err, Result, sym, refl, ap, subst, ⊎_elim, arith, MatchResult}
 use Rattle.std.proofs.lemmas.Bool.{cases_lt}
 use Rattle.scan.specs.declared.types.Step.{Step}
 use Rattle.scan.specs.declared.types.ReaderFault.{ReaderFault}

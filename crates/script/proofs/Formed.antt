@@ -1,16 +1,15 @@
 -- From the tokens of a form to what it says, and from the steps to what the plan holds.
-use Rattle.std.proofs.Common.{◌≡◌, ℕ, zero, suc, ◌+◌, ◌-◌, ◌<◌, ◌≤◌, Bool, true, false, cond, not, ltb, leb, ◌≢◌, ◌⊎◌, List, [], ◌∷◌, ◌++◌, map, length, Some, None, Ok, Err, vec_items, Option, Result, sym, refl, ap, ◌∙◌, subst, inl, inr, append_assoc, append-nil, arith, length-append}
+use Rattle.std.proofs.Common.{◌≡◌, ℕ, zero, suc, ◌+◌, ◌-◌, ◌<◌, ◌≤◌, Bool, true, false, cond, not, ltb, ◌⊎◌, List, [], ◌∷◌, ◌++◌, length, Some, None, Ok, Err, vec_items, Option, Result, sym, refl, ap, ◌∙◌, subst, inl, inr, append_assoc, append-nil, arith}
 use Rattle.std.proofs.lemmas.List.{length-map}
 use Rattle.std.proofs.lemmas.Bool.Decides.{nat_tests}
 use Rattle.scan.specs.declared.types.Verb.{Verb}
 use Rattle.scan.specs.declared.types.Step.{Step}
 use Rattle.scan.specs.declared.types.ReaderFault.{ReaderFault}
-use Rattle.scan.specs.declared.types.ReaderFault.TheVariants as fault
 use Rattle.scan.specs.declared.reader.Reader.{Reader}
 use Rattle.script.specs.declared.plan.Plan.{Plan}
 use Rattle.scan.specs.Tokens.{Tok, numeral, opens, closes, word, text, line_end, none}
 use Rattle.scan.specs.Words.{Said, said_of, kinds, natural_of, within, is_opens, is_closes}
-use Rattle.scan.specs.Forms.{copies, Open, bottom, times, State, depth, first, add, start, opened, counting, arguing, ended, Outcome, done, refused}
+use Rattle.scan.specs.Forms.{copies, Open, times, depth, first, add, start, opened, counting, arguing, ended, refused}
 use Rattle.scan.specs.Taking.{said_step, some, head_of, headed, inside_of, PicksFrom, Misses, ahead, left}
 use Rattle.script.specs.Plans.{Kept, Holds, Grows, Pushes, Repeats, ReadsAt, LeadsAt, Formed, ReadsForm, Filled}
 use Rattle.scan.proofs.Steps.{fits_head, fits_count, fits_inside}

@@ -1,7 +1,7 @@
 -- What a plan holds after a push and after a repetition.
 use Rattle.std.proofs.Common.{◌≡◌, ℕ, zero, suc, ◌+◌, ◌-◌, ◌<◌, ◌≤◌, Bool, true, false, ◌⊎◌, List, [], ◌∷◌, ◌++◌, map, length, take, drop, sym, refl, ap, ◌∙◌, subst, inl, inr, ⊎_elim, append_assoc, append-nil, arith, length-append, length-drop}
 use mathlib.Core.List.{map-append}
-use Rattle.std.proofs.lemmas.List.{length-map, drop-map, drop-append-le, take_all}
+use Rattle.std.proofs.lemmas.List.{length-map, drop-map, drop-append-le}
 use Rattle.scan.specs.declared.types.Step.{Step}
 use Rattle.scan.specs.Words.{Said, said_of}
 use Rattle.scan.specs.Forms.{copies}

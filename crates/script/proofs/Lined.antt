@@ -1,13 +1,11 @@
 -- From the tokens of a line to what it says, and from the lines to the script.
-use Rattle.std.proofs.Common.{◌≡◌, ℕ, ◌<◌, ◌≤◌, Bool, true, false, cond, ◌≢◌, ◌⊎◌, List, [], ◌∷◌, ◌++◌, map, length, Ok, Err, vec_items, sym, refl, ap, ◌∙◌, subst, inl, inr, append_assoc, append-nil, arith}
-use Rattle.std.proofs.lemmas.List.{length-map}
-use Rattle.scan.specs.declared.types.Step.{Step}
+use Rattle.std.proofs.Common.{◌≡◌, ℕ, ◌≤◌, Bool, true, false, cond, ◌≢◌, List, [], ◌∷◌, ◌++◌, map, length, Ok, vec_items, sym, refl, ap, ◌∙◌, subst, append-nil, arith}
 use Rattle.scan.specs.declared.types.ReaderFault.{ReaderFault}
 use Rattle.scan.specs.declared.types.ReaderFault.TheVariants as fault
 use Rattle.scan.specs.declared.reader.Reader.{Reader}
 use Rattle.script.specs.declared.plan.Plan.{Plan}
 use Rattle.scan.specs.Words.{Said, said_of}
-use Rattle.scan.specs.Forms.{Open, bottom, State, first, start, opened, over, Outcome, done, refused, Reads, finished, goes, unread, unfit}
+use Rattle.scan.specs.Forms.{bottom, State, first, start, opened, over, Outcome, done, refused, Reads, finished, goes, unread, unfit}
 use Rattle.scan.specs.Taking.{some, outside_of, line_end_of, PicksFrom, Misses, ahead, left}
 use Rattle.script.specs.Plans.{Kept, Holds, ReadsAt, LeadsAt, Formed, Lined, Behind}
 use Rattle.script.specs.Scripts.{Whole, Comes, too_many_steps, stopped, steps, Steps, Refusal}

@@ -1,17 +1,16 @@
 -- The reading of written forms goes on behind them with the steps that they stand for.
-use Rattle.std.proofs.Common.{◌≡◌, ℕ, zero, suc, ◌+◌, ◌-◌, ◌<◌, ◌≤◌, Bool, true, false, cond, ◌&&◌, ltb, leb, List, [], ◌∷◌, ◌++◌, length, ℤ, pos, negsuc, neg_ℤ, Some, None, codes, decimal, Option, sym, refl, ap, ◌∙◌, subst, append_assoc, append-nil, arith, length-append}
+use Rattle.std.proofs.Common.{◌≡◌, ℕ, zero, suc, ◌+◌, ◌-◌, ◌<◌, ◌≤◌, Bool, true, false, cond, ◌&&◌, ltb, leb, List, [], ◌∷◌, ◌++◌, length, ℤ, pos, negsuc, Some, None, codes, decimal, Option, sym, refl, ap, ◌∙◌, subst, append_assoc, append-nil, arith, length-append}
 use mathlib.Core.Bool.{beq}
-use Rattle.std.specs.Fmt.{signed_decimal}
 use Rattle.std.specs.Str.{bytes_eq}
 use Rattle.std.proofs.lemmas.Bool.{le-leb, lt-ltb, and_from, cond-true, cond-false}
 use Rattle.scan.specs.declared.types.Verb.{Verb}
 use Rattle.scan.specs.declared.types.Verb.TheVariants as verb
 use Rattle.scan.specs.declared.types.Layout.{Layout}
 use Rattle.scan.specs.declared.types.Layout.TheVariants.{Byte8, Sixbit}
-use Rattle.scan.specs.Tokens.{Tok, opens, closes, numeral, word, text, line_end, next, parted, every, unparted, printable}
-use Rattle.scan.specs.Words.{spelled, layout_name, verb_of, Kind, a_number, a_cell_count, a_signed, a_text, a_layout, Arg, nat, int, chars, layout, kinds, is_open, natural_of, bind, argument, Said, says}
+use Rattle.scan.specs.Tokens.{Tok, opens, closes, numeral, word, text, line_end, next, parted}
+use Rattle.scan.specs.Words.{spelled, layout_name, verb_of, Kind, a_layout, Arg, nat, int, chars, layout, kinds, is_open, natural_of, bind, argument, Said, says}
 use Rattle.scan.specs.Forms.{copies, Open, bottom, times, depth, first, add, State, start, opened, counting, arguing, over, ended, begun, fit, Outcome, done, Reads, finished, goes}
-use Rattle.scan.specs.Writing.{quoted, written_arg, written_args, written_call}
+use Rattle.scan.specs.Writing.{written_arg, written_args}
 use Rattle.scan.proofs.Spelled.{verb_spelled}
 use Rattle.script.specs.Scripts.{Whole}
 use Rattle.script.specs.Written as w

@@ -1,12 +1,12 @@
 -- The flat list of steps, and what forms and lines add to it.
-use Rattle.std.specs.Prelude.{◌≡◌, ℕ, ◌+◌, ◌<◌, ◌≤◌, Bool, true, false, not, ◌≢◌, ◌⊎◌, List, [], ◌∷◌, ◌++◌, map, length, Ok, Err, vec_items, Result}
+use Rattle.std.specs.Prelude.{◌≡◌, ℕ, ◌+◌, ◌<◌, ◌≤◌, Bool, true, false, not, ◌≢◌, ◌⊎◌, List, [], ◌++◌, map, length, Ok, Err, vec_items, Result}
 use Rattle.scan.specs.declared.reader.Reader.{Reader}
 use Rattle.scan.specs.declared.types.Step.{Step}
 use Rattle.scan.specs.declared.types.ReaderFault.{ReaderFault}
 use Rattle.scan.specs.declared.types.ReaderFault.TheVariants as fault
 use Rattle.script.specs.declared.plan.Plan.{Plan}
 use Rattle.scan.specs.Words.{Said, said_of}
-use Rattle.scan.specs.Forms.{copies, Open, bottom, times, State, depth, first, add, start, opened, ended, Outcome, done, refused, Reads}
+use Rattle.scan.specs.Forms.{copies, Open, bottom, times, State, depth, first, add, start, opened, ended, Outcome, refused, Reads}
 use Rattle.scan.specs.Taking.{some, left}
 
 -- what the reading comes to from a state, where a reader stands

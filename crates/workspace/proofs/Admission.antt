@@ -1,5 +1,5 @@
 -- The check that comes first in every call.
-use Rattle.std.proofs.Common.{◌≡◌, ℕ, zero, suc, ◌<◌, ◌≤◌, List, [], ◌∷◌, length, get_or, refl, arith}
+use Rattle.std.proofs.Common.{◌≡◌, ℕ, zero, suc, ◌<◌, List, [], ◌∷◌, length, get_or, refl, arith}
 use Rattle.std.specs.List.{AllByRecursion}
 use Rattle.workspace.specs.declared.space.State.{State}
 use Rattle.workspace.specs.declared.space.State.TheVariants.{Shut, Opened}

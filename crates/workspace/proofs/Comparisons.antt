@@ -1,5 +1,5 @@
 -- The logs of two workspaces that were just opened.
-use Rattle.std.proofs.Common.{◌≡◌, ℕ, false, List, [], replicate, sym, refl, subst, subst₂}
+use Rattle.std.proofs.Common.{◌≡◌, ℕ, List, [], replicate, sym, refl, subst, subst₂}
 use Rattle.cells.specs.Meaning.{Figures, Memory}
 use Rattle.rules.specs.Model.{empty}
 use Rattle.rules.specs.Calls.{Limits, Call, Answer, ok, Run}

@@ -1,8 +1,8 @@
 -- A workspace with one thing more, and a register that points at it.
-use Rattle.std.proofs.Common.{◌≡◌, ℕ, ◌+◌, ◌<◌, ◌≤◌, List, length, get_or, set, pos, sym, refl, ap, ◌∙◌, subst, arith}
+use Rattle.std.proofs.Common.{◌≡◌, ℕ, ◌<◌, ◌≤◌, List, get_or, set, pos, sym, ap, ◌∙◌, subst, arith}
 use Rattle.cells.specs.declared.Descriptor.{Descriptor}
 use Rattle.cells.specs.Meaning.{Memory, Sound}
-use Rattle.rules.specs.Model.{Thing, Value, Model, register}
+use Rattle.rules.specs.Model.{Thing, Value, Model}
 use Rattle.rules.specs.Arena.{desc, Arena, Codes, Proper}
 use Rattle.rules.specs.Calls.{put}
 use Rattle.arena.specs.Growth.{Grown}

@@ -1,20 +1,19 @@
 -- Room in a workspace, from room in its heap.
-use Rattle.std.proofs.Common.{◌≡◌, ℕ, ◌+◌, ◌<◌, ◌≤◌, ◌⊎◌, List, length, get_or, pos, Ok, Err, sym, refl, ap, ◌∙◌, subst, inl, inr, arith}
+use Rattle.std.proofs.Common.{◌≡◌, ℕ, ◌+◌, ◌<◌, ◌≤◌, List, length, pos, Ok, Err, sym, refl, ap, ◌∙◌, subst, inl, inr, arith}
 use Rattle.std.proofs.lemmas.List.{get_or_default}
 use Rattle.std.proofs.lemmas.Bool.{cases_lt}
 use Rattle.cells.specs.declared.Descriptor.{Descriptor}
 use Rattle.cells.specs.Meaning.{Memory}
 use Rattle.rules.specs.Lists.{total}
-use Rattle.rules.specs.Model.{Thing, Model, register, size, Exactly}
+use Rattle.rules.specs.Model.{Model, register, size}
 use Rattle.rules.specs.Arena.{desc, null_desc, Arena, Codes}
 use Rattle.arena.specs.declared.faults.HeapFault.{HeapFault}
 use Rattle.arena.specs.declared.faults.HeapFault.TheVariants.{Cells, NoField, BadMake, LongText, NoRoom, Unlawful}
 use Rattle.heap.specs.Regeneration as heap
-use Rattle.heap.specs.Room.{Left, Remade, MakesRoom, FullExactly}
-use Rattle.workspace.specs.declared.space.State.{State}
+use Rattle.heap.specs.Room.{MakesRoom, FullExactly}
 use Rattle.workspace.specs.declared.space.State.TheVariants.{Opened}
-use Rattle.workspace.specs.Shown.{View, Shown, Renewed, Roomed, enough, remade}
-use Rattle.workspace.specs.Rooms.{Fits, HasRoom, LacksRoom, RoomOf}
+use Rattle.workspace.specs.Shown.{View, Shown, Renewed, enough, remade}
+use Rattle.workspace.specs.Rooms.{Fits, HasRoom, RoomOf}
 
 bins_same : (b n c k : ℕ) → Opened b n ≡ Opened c k → b ≡ c
 bins_same b n c k e = cc

@@ -1,5 +1,5 @@
 -- How a call that needs no cells is shown to be exact: by its refusal, or by its answer and the model after it.
-use Rattle.std.proofs.Common.{◌≡◌, ℕ, ◌<◌, ◌≤◌, Bool, true, false, ◌≢◌, ◌⊎◌, List, [], ◌∷◌, length, get_or, set, ℤ, pos, IsErrAnd, Ok, Err, Result, sym, refl, ap, ◌∙◌, subst, inl, inr, arith, length-set}
+use Rattle.std.proofs.Common.{◌≡◌, ℕ, ◌<◌, ◌≤◌, Bool, ◌⊎◌, List, length, get_or, set, ℤ, pos, IsErrAnd, Err, Result, sym, refl, ap, ◌∙◌, subst, inl, inr, arith, length-set}
 use Rattle.std.specs.List.{AllByRecursion}
 use Rattle.std.proofs.lemmas.List.{get_or-set_same, get_or-set_other}
 use Rattle.std.proofs.lemmas.Result.{err_from_is_err_and}
@@ -9,8 +9,8 @@ use Rattle.rules.specs.declared.Layer.{Layer}
 use Rattle.rules.specs.declared.Word.{Word}
 use Rattle.rules.specs.Lists.{In, total}
 use Rattle.rules.specs.Model.{Text, Thing, Value, null, Model, register, size, has, Reach, Exactly}
-use Rattle.rules.specs.Arena.{desc, Arena, Codes, Proper, Shows}
-use Rattle.rules.specs.Calls.{Limits, Call, word, first, Refusal, Answer, ok, no, Act, refuse, give, act, registers_then, refused, settle, Outcome, outcome, put, Step}
+use Rattle.rules.specs.Arena.{desc, Arena, Codes, Proper}
+use Rattle.rules.specs.Calls.{Limits, Call, word, first, Answer, ok, no, Act, refuse, give, act, registers_then, refused, settle, outcome, put}
 use Rattle.rules.specs.Opening.{closed}
 use Rattle.rules.proofs.Acts.{registers_fine, registers_beyond}
 use Rattle.rules.proofs.Reach.{closed_has}
@@ -22,7 +22,7 @@ use Rattle.workspace.specs.declared.faults.WorkspaceFault.{WorkspaceFault}
 use Rattle.workspace.specs.declared.space.State.{State}
 use Rattle.workspace.specs.declared.space.State.TheVariants.{Shut, Opened}
 use Rattle.workspace.specs.Reports.{report}
-use Rattle.workspace.specs.Shown.{View, Shown, limits, Needless, stays, Given, Exact, answered, Admits}
+use Rattle.workspace.specs.Shown.{View, Shown, limits, Needless, stays, Exact, answered, Admits}
 
 -- An open workspace is not closed.
 pub not_shut : {A : Type 0} (s : State) (b n : ℕ) → s ≡ Opened b n → s ≡ Shut → A

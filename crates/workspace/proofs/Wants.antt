@@ -1,5 +1,5 @@
 -- How a call with a work list is shown to be exact.
-use Rattle.std.proofs.Common.{◌≡◌, ℕ, ◌+◌, ◌<◌, ◌≤◌, Bool, leb, ◌≢◌, List, [], ◌∷◌, length, get_or, ℤ, Ok, Err, Result, sym, refl, ap, ◌∙◌, subst, inl, inr, arith}
+use Rattle.std.proofs.Common.{◌≡◌, ℕ, ◌<◌, ◌≤◌, Bool, leb, ◌≢◌, List, [], get_or, ℤ, Err, Result, sym, refl, ap, ◌∙◌, subst, inl, inr, arith}
 use Rattle.std.specs.List.{AllByRecursion}
 use Rattle.std.proofs.lemmas.Bool.{lt-leb, cond-false}
 use Rattle.rules.specs.declared.Layer.{Layer}
@@ -7,12 +7,10 @@ use Rattle.rules.specs.declared.Word.{Word}
 use Rattle.rules.specs.Lists.{total}
 use Rattle.rules.specs.Model.{Text, Thing, Model, size, has, Exactly}
 use Rattle.rules.specs.Arena.{Arena}
-use Rattle.rules.specs.Calls.{Limits, Call, word, first, Answer, ok, no, Act, refuse, give, want, act, registers_then, refused, settle, work_then, Outcome, outcome_with}
+use Rattle.rules.specs.Calls.{Limits, Call, word, first, Answer, ok, no, Act, refuse, give, want, act, registers_then, refused, settle, work_then, outcome_with}
 use Rattle.rules.specs.Opening.{closed}
 use Rattle.rules.proofs.Acts.{registers_fine, registers_beyond}
 use Rattle.rules.proofs.Room.{settle_fits, settle_full, work_long}
-use Rattle.arena.specs.declared.faults.HeapFault.TheVariants.{NoRoom}
-use Rattle.workspace.specs.declared.faults.Cause.TheVariants.{Heap, ShortWork}
 use Rattle.workspace.specs.declared.faults.WorkspaceFault.{WorkspaceFault}
 use Rattle.workspace.specs.declared.space.State.TheVariants.{Shut, Opened}
 use Rattle.workspace.specs.Reports.{report}

@@ -1,4 +1,4 @@
-use Rattle.std.proofs.Common.{◌≡◌, ℕ, Bool, List, [], get_or, vec_items, ap, ◌∙◌, Bor}
+use Rattle.std.proofs.Common.{◌≡◌, ℕ, List, get_or, vec_items, ap, ◌∙◌, Bor}
 use Rattle.plan.specs.Names.{texts, has_text}
 use Rattle.plan.proofs.Seen.{no_name}
 use Rattle.plan.proofs.Distinct.{distinct_seen, distinct_new, distinct_all}

@@ -1,8 +1,7 @@
-use Rattle.std.proofs.Common.{◌≡◌, ℕ, ◌+◌, List, ◌++◌, take, drop, vec_items, sym, ap, ◌∙◌, subst}
-use Rattle.std.specs.List.{between}
+use Rattle.std.proofs.Common.{ℕ, List, ◌++◌, vec_items, ap, ◌∙◌}
 use Rattle.std.proofs.lemmas.List.{take_rest}
 use Rattle.plan.specs.Names.{texts, kept}
-use Rattle.plan.proofs.Lines.{Walked, walk_byte, walk_line, walk_all}
+use Rattle.plan.proofs.Lines.{walk_byte, walk_line, walk_all}
 use Rattle.plan.proofs.names.parts_of.Goals as goal
 use Rattle.plan.proofs.names.parts_of.Goals.{then-input-i+in_ok-keep, else-input-i}
 

@@ -1,4 +1,4 @@
-use Rattle.std.proofs.Common.{ℕ, ◌≤◌, List, [], length, get_or, sym, ◌∙◌}
+use Rattle.std.proofs.Common.{◌≤◌, [], length, get_or, sym, ◌∙◌}
 use Rattle.std.proofs.lemmas.Slice.Eq.{slice_eq-Decides}
 use Rattle.std.proofs.lemmas.List.{length-map}
 use Rattle.plan.specs.Names.{texts}

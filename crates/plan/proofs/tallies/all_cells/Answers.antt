@@ -1,4 +1,4 @@
-use Rattle.std.proofs.Common.{◌≡◌, ℕ, ◌+◌, ◌*◌, ◌≤◌, List, [], get_or, take, unwrap_or, sym, ap, ◌∙◌, arith}
+use Rattle.std.proofs.Common.{ℕ, ◌+◌, get_or, take, unwrap_or, sym, ap, ◌∙◌, arith}
 use Rattle.plan.specs.Names.{texts}
 use Rattle.plan.specs.Plans.{name_cells, all_cells}
 use Rattle.plan.proofs.Seen.{no_name}

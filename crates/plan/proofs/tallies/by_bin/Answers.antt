@@ -1,4 +1,4 @@
-use Rattle.std.proofs.Common.{ℕ, ◌+◌, List, [], get_or, vec_items, sym, ap, ◌∙◌, subst, arith}
+use Rattle.std.proofs.Common.{◌+◌, vec_items, sym, ◌∙◌, subst, arith}
 use Rattle.plan.proofs.Seen.{no_name}
 use Rattle.plan.proofs.ByBin.{Binned, binned_none, binned_left, binned_wrote, binned_small, binned_all}
 use Rattle.plan.proofs.tallies.by_bin.Goals as goal

@@ -1,8 +1,8 @@
-use Rattle.std.proofs.Common.{◌≡◌, ℕ, ◌+◌, ◌*◌, ◌≤◌, Bool, true, false, cond, List, [], get_or, take, sym, ap, ◌∙◌, arith}
+use Rattle.std.proofs.Common.{ℕ, cond, get_or, sym, ◌∙◌, arith}
 use Rattle.std.proofs.lemmas.Bool.{cond-true, cond-false}
 use Rattle.rules.specs.Model.{Text}
 use Rattle.plan.specs.Names.{texts}
-use Rattle.plan.specs.Plans.{holds, held}
+use Rattle.plan.specs.Plans.{holds}
 use Rattle.plan.proofs.Seen.{no_name}
 use Rattle.plan.proofs.Sums.{sum_more, sum_all, sum_small, one_at_most}
 use Rattle.plan.proofs.tallies.held_of.Goals as goal

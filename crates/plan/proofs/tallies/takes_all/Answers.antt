@@ -1,4 +1,4 @@
-use Rattle.std.proofs.Common.{◌≡◌, ◌<◌, ◌≤◌, true, false, get_or, sym, ◌∙◌, arith}
+use Rattle.std.proofs.Common.{◌≡◌, false, get_or, sym, ◌∙◌, arith}
 use Rattle.rules.specs.Calls.{takes}
 use Rattle.rules.proofs.Acts.{takes_true, takes_low, takes_high}
 use Rattle.plan.proofs.Taken.{taken_more, taken_not, taken_all}

@@ -1,7 +1,7 @@
-use Rattle.std.proofs.Common.{◌≡◌, ℕ, ◌+◌, ◌-◌, ◌<◌, ◌≤◌, [], ◌∷◌, length, refl, arith}
+use Rattle.std.proofs.Common.{◌<◌, refl, arith}
 use Rattle.std.proofs.lemmas.Result.{err_from_is_err_and}
 use Rattle.std.proofs.lemmas.Bool.{ltb-true}
-use Rattle.scan.specs.Forms.{times, depth}
+use Rattle.scan.specs.Forms.{times}
 use Rattle.scan.proofs.Taken.{made_any}
 use Rattle.script.proofs.Formed.{head_stops, head_none, head_some, inside_stops, inside_opens, filled_more, filled_end, filled_any, times_begun, count_stops, count_low, times_formed, call_formed}
 use Rattle.script.proofs.forms.+form.Goals as goal

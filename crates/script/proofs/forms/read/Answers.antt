@@ -1,4 +1,4 @@
-use Rattle.std.proofs.Common.{◌≡◌, length, vec_items, ap, arith}
+use Rattle.std.proofs.Common.{length, vec_items, ap, arith}
 use Rattle.script.specs.Scripts.{too_many_bytes}
 use Rattle.script.proofs.Back.{exactly_one, read_back}
 use Rattle.script.proofs.forms.read.Goals as goal

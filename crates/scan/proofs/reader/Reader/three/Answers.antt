@@ -1,6 +1,5 @@
 use Rattle.std.proofs.Common.{[], ◌∷◌, ◌++◌, arith}
 use Rattle.std.proofs.lemmas.Result.{err_from_is_err_and}
-use Rattle.scan.specs.declared.types.Verb.TheVariants as verb
 use Rattle.scan.specs.Words.{a_number, nat}
 use Rattle.scan.proofs.Arguments.{number_on, number_stops}
 use Rattle.scan.proofs.reader.Reader.three.Goals as goal

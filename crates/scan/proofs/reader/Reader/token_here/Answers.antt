@@ -1,10 +1,9 @@
-use Rattle.std.proofs.Common.{◌≡◌, ℕ, ◌+◌, ◌<◌, ◌≤◌, true, false, eqb, List, [], ◌∷◌, length, take, drop, sym, refl, ap, ◌∙◌, subst, arith, rules}
+use Rattle.std.proofs.Common.{◌≡◌, ℕ, ◌+◌, true, false, List, [], ◌∷◌, take, drop, sym, refl, ap, ◌∙◌, arith}
 use Rattle.std.specs.List.{prefix_len}
 use Rattle.std.proofs.lemmas.List.Sums.{prefix_len-le-length}
 use Rattle.std.proofs.lemmas.Bool.{ne_eqb}
-use Rattle.scan.specs.Tokens.{Next, found, none, text, printable, unparted, next_here, closed, run_token}
+use Rattle.scan.specs.Tokens.{Next, found, text, printable, unparted, closed, run_token}
 use Rattle.scan.specs.Forms.{no_token_at}
-use Rattle.scan.specs.Taking.{Took, Takes}
 use Rattle.scan.proofs.Nexts.{nil_next, line_next, open_next, close_next, text_next_lem, run_next_lem, closed_text, unclosed_text, drop_two, took_by}
 use Rattle.scan.proofs.reader.Reader.token_here.Goals as goal
 

@@ -1,4 +1,4 @@
-use Rattle.std.proofs.Common.{◌≡◌, ◌<◌, ◌≤◌, List, [], ◌∷◌, ◌++◌, length, vec_items, sym, subst, arith}
+use Rattle.std.proofs.Common.{◌<◌, ◌≤◌, List, [], ◌∷◌, ◌++◌, length, vec_items, sym, subst, arith}
 use Rattle.scan.specs.declared.types.Step.{Step}
 use Rattle.scan.specs.Words.{said_of}
 use Rattle.script.specs.Plans.{Kept}

@@ -1,4 +1,4 @@
-use Rattle.std.proofs.Common.{◌≡◌, ℕ, ◌-◌, ◌≤◌, false, ◌++◌, drop, vec_items, vec_len}
+use Rattle.std.proofs.Common.{◌≡◌, ◌≤◌, false, ◌++◌, drop, vec_items, vec_len}
 use Rattle.scan.specs.Forms.{copies}
 use Rattle.script.proofs.plan.Plan.repeat.Given as goal
 

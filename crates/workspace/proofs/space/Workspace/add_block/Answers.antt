@@ -1,12 +1,12 @@
-use Rattle.std.proofs.Common.{◌≡◌, ℕ, ◌+◌, ◌≤◌, length, pos, Ok, Err, sym, refl, ap, ◌∙◌, subst, arith}
+use Rattle.std.proofs.Common.{◌≡◌, ℕ, ◌+◌, length, pos, Err, sym, refl, ap, ◌∙◌, subst, arith}
 use Rattle.cells.specs.declared.Descriptor.{Descriptor}
-use Rattle.rules.specs.Model.{Model, Value, block}
-use Rattle.rules.specs.Arena.{Arena, Codes, desc, as_block}
+use Rattle.rules.specs.Model.{Value, block}
+use Rattle.rules.specs.Arena.{Codes, desc, as_block}
 use Rattle.rules.specs.Calls.{put_block}
 use Rattle.arena.specs.declared.faults.HeapFault.{HeapFault}
 use Rattle.arena.specs.Growth.{add_block, arena_with_block}
 use Rattle.arena.proofs.Outcomes.{ok_same, ok_not_err}
-use Rattle.workspace.specs.Shown.{View, view}
+use Rattle.workspace.specs.Shown.{view}
 use Rattle.workspace.specs.Rooms.{RoomOf, HasRoom, Grows, Grew}
 use Rattle.workspace.proofs.Steps.{passed}
 use Rattle.workspace.proofs.Growing.{grew, next_small}
