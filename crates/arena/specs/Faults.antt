@@ -3,8 +3,19 @@ use Rattle.std.specs.Prelude.{ℕ, Ok, Err, Result}
 use Rattle.cells.specs.Meaning.{fault_number}
 use Rattle.rules.specs.declared.Layer.{Layer}
 use Rattle.rules.specs.Calls.{Act, refuse}
+use Rattle.arena.specs.declared.faults.Rule.{Rule}
 use Rattle.arena.specs.declared.faults.HeapFault.{HeapFault}
 use Rattle.arena.specs.declared.faults.HeapFault.TheVariants.{Cells, NoField, BadMake, LongText, NoRoom, Unlawful}
+
+-- The number of a rule of a lawful arena.
+abbrev pub rule_number : Rule → ℕ
+rule_number Rule.Next = 1
+rule_number Rule.Titles = 2
+rule_number Rule.Values = 3
+rule_number Rule.Links = 4
+rule_number Rule.Padding = 5
+rule_number Rule.Chains = 6
+rule_number Rule.Texts = 7
 
 -- The store's faults keep their numbers.
 abbrev pub heap_number : HeapFault → ℕ
@@ -38,7 +49,7 @@ heap_rule (NoField k) = 0
 heap_rule BadMake = 0
 heap_rule LongText = 0
 heap_rule NoRoom = 0
-heap_rule (Unlawful rule cell) = rule
+heap_rule (Unlawful rule cell) = rule_number rule
 
 -- What a call comes to after a check of the heap: the act, or the refusal at a register.
 abbrev pub heap_then : Result (Unit {0}) HeapFault → ℕ → Act → Act

@@ -7,9 +7,9 @@ ghost use Rattle.arena.specs.declared.faults.HeapFault.TheVariants.{NoRoom};
 ghost use Rattle.arena.specs.Blocks.{fit_make, Filled, Made};
 ghost use Rattle.arena.specs.Growth.{add_block, arena_with_block, Grown};
 
-use crate::faults::HeapFault;
+use crate::faults::{HeapFault, Rule};
 use crate::titles::null_value;
-use crate::{MOST_CELLS, RULE_TITLES, TITLE};
+use crate::{MOST_CELLS, TITLE};
 use cells::{Descriptor, Store};
 
 // Whether a block can have n fields and this type.
@@ -28,7 +28,7 @@ pub fn block_title(at: u32, n: u32) -> Result<Descriptor, HeapFault>
     ensures { at ≤ 65535 → result ≡ Ok (desc (pos at) 2 n) }
 {
     if at > MOST_CELLS {
-        return Err(HeapFault::Unlawful(RULE_TITLES, at));
+        return Err(HeapFault::Unlawful(Rule::Titles, at));
     }
     Ok(Descriptor {
         value: at as i32,

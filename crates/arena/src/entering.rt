@@ -7,13 +7,10 @@ ghost use Rattle.rules.specs.Arena.{Arena, desc};
 ghost use Rattle.arena.specs.Enters.{Backward, code_at, Takes, Writing, Framed, Written, Open, Entered, Fresh};
 ghost use Rattle.arena.specs.Growth.{arena_with_text, Grown};
 
-use crate::faults::HeapFault;
+use crate::faults::{HeapFault, Rule};
 use crate::strings::{precedes, slot_of};
 use crate::titles::{cell_of, null_value, pointer_at};
-use crate::{
-    LONGEST_TEXT, MOST_CELLS, MOST_PLACES, POINTER, RULE_LINKS, RULE_TITLES, STRING, STRING_FIELDS,
-    TITLE,
-};
+use crate::{LONGEST_TEXT, MOST_CELLS, MOST_PLACES, POINTER, STRING, STRING_FIELDS, TITLE};
 use cells::{Descriptor, Store};
 use rules::cells_of_string;
 
@@ -30,7 +27,7 @@ pub fn place_for<S: Store>(store: &S, head: u32, number: u32) -> Result<u32, Hea
         }
         let at = cell_of(link)?;
         if left == 0 || at > MOST_CELLS {
-            return Err(HeapFault::Unlawful(RULE_LINKS, cell));
+            return Err(HeapFault::Unlawful(Rule::Links, cell));
         }
         left -= 1;
         let own = store.descriptor(at + 1 + STRING_FIELDS)?;
@@ -59,7 +56,7 @@ pub fn spell<S: Store>(store: &mut S, at: u32, rows: u32, text: &[u8]) -> Result
     let places = store.places();
     let lowest = store.lowest();
     if at > MOST_CELLS || rows > MOST_CELLS || places == 0 || places > MOST_PLACES {
-        return Err(HeapFault::Unlawful(RULE_TITLES, at));
+        return Err(HeapFault::Unlawful(Rule::Titles, at));
     }
     for j in 0..rows * places {
         store.set_character(at + j / places, j % places, code_for(text, lowest, j))?;
@@ -72,7 +69,7 @@ pub fn string_title(at: u32, size: u32) -> Result<Descriptor, HeapFault>
     ensures { at ≤ 65535 → result ≡ Ok (desc (pos at) 6 size) }
 {
     if at > MOST_CELLS {
-        return Err(HeapFault::Unlawful(RULE_TITLES, at));
+        return Err(HeapFault::Unlawful(Rule::Titles, at));
     }
     Ok(Descriptor {
         value: at as i32,
@@ -89,7 +86,7 @@ pub fn frame<S: Store>(store: &mut S, at: u32, size: u32, link: Descriptor) -> R
     let title = string_title(at, size)?;
     let null = null_value();
     if at > MOST_CELLS {
-        return Err(HeapFault::Unlawful(RULE_TITLES, at));
+        return Err(HeapFault::Unlawful(Rule::Titles, at));
     }
     store.set_descriptor(at, title)?;
     store.set_descriptor(at + 1, null)?;
@@ -128,7 +125,7 @@ pub fn write_string<S: Store>(
     let length = text.len() as u32;
     let size = cells_of_string(length, store.places());
     if size < 2 + STRING_FIELDS || next > MOST_CELLS {
-        return Err(HeapFault::Unlawful(RULE_TITLES, next));
+        return Err(HeapFault::Unlawful(Rule::Titles, next));
     }
     frame(store, next, length, link)?;
     spell(

@@ -1,10 +1,40 @@
 // Why the heap refuses: its store does, or one of its own checks.
 ghost use Rattle.std.specs.Prelude.{◌≡◌};
 ghost use Rattle.arena.specs.declared.faults.HeapFault.TheVariants.{Cells};
-ghost use Rattle.arena.specs.Faults.{heap_number, heap_layer, heap_place, heap_rule};
+ghost use Rattle.arena.specs.Faults.{rule_number, heap_number, heap_layer, heap_place, heap_rule};
 
 use cells::StoreFault;
 use rules::Layer;
+
+// The rules of a lawful arena, in the order in which they are looked at: where next lies, titles, values, heads and links,
+// padding, chains, and that no text stands twice.
+#[derive(Clone, Copy, PartialEq, Eq, Debug)]
+pub enum Rule {
+    Next,
+    Titles,
+    Values,
+    Links,
+    Padding,
+    Chains,
+    Texts,
+}
+
+impl Rule {
+    // The number that reports give.
+    pub fn number(self) -> u32
+        ensures { result ≡ rule_number self }
+    {
+        match self {
+            Rule::Next => 1,
+            Rule::Titles => 2,
+            Rule::Values => 3,
+            Rule::Links => 4,
+            Rule::Padding => 5,
+            Rule::Chains => 6,
+            Rule::Texts => 7,
+        }
+    }
+}
 
 // A store's fault is carried whole, with the place of the character that it refuses, or 0. A field that is not there is told
 // by its number, and an unlawful arena by the broken rule and its cell.
@@ -15,7 +45,7 @@ pub enum HeapFault {
     BadMake,
     LongText,
     NoRoom,
-    Unlawful(u32, u32),
+    Unlawful(Rule, u32),
 }
 
 impl From<StoreFault> for HeapFault {
@@ -47,11 +77,7 @@ impl HeapFault {
     {
         match self {
             HeapFault::Cells(_, _) => Layer::Store,
-            HeapFault::NoField(_) => Layer::Heap,
-            HeapFault::BadMake => Layer::Heap,
-            HeapFault::LongText => Layer::Heap,
-            HeapFault::NoRoom => Layer::Heap,
-            HeapFault::Unlawful(_, _) => Layer::Heap,
+            _ => Layer::Heap,
         }
     }
 
@@ -62,10 +88,8 @@ impl HeapFault {
         match self {
             HeapFault::Cells(_, place) => place,
             HeapFault::NoField(field) => field,
-            HeapFault::BadMake => 0,
-            HeapFault::LongText => 0,
-            HeapFault::NoRoom => 0,
             HeapFault::Unlawful(_, cell) => cell,
+            _ => 0,
         }
     }
 
@@ -74,12 +98,8 @@ impl HeapFault {
         ensures { result ≡ heap_rule self }
     {
         match self {
-            HeapFault::Cells(_, _) => 0,
-            HeapFault::NoField(_) => 0,
-            HeapFault::BadMake => 0,
-            HeapFault::LongText => 0,
-            HeapFault::NoRoom => 0,
-            HeapFault::Unlawful(rule, _) => rule,
+            HeapFault::Unlawful(rule, _) => rule.number(),
+            _ => 0,
         }
     }
 }

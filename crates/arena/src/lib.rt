@@ -2,6 +2,7 @@
 // An arena over any store of cells: titles, values, fields, blocks and strings, read and added to.
 pub mod blocks;
 pub mod entering;
+pub mod extent;
 pub mod faults;
 pub mod fields;
 pub mod opening;
@@ -33,10 +34,3 @@ pub const MOST_PLACES: u32 = 16;
 
 // No text is longer.
 pub const LONGEST_TEXT: usize = 1_024;
-
-// The rules of a lawful arena, by the numbers that faults report.
-pub const RULE_TITLES: u32 = 2;
-
-pub const RULE_VALUES: u32 = 3;
-
-pub const RULE_LINKS: u32 = 4;

@@ -6,9 +6,9 @@ ghost use Rattle.rules.specs.Model.{Model, string};
 ghost use Rattle.rules.specs.Arena.{Arena, At, Shows};
 ghost use Rattle.arena.specs.Finds.{Readable, Spells, Sought};
 
-use crate::faults::HeapFault;
+use crate::faults::{HeapFault, Rule};
 use crate::titles::cell_of;
-use crate::{MOST_CELLS, POINTER, RULE_LINKS, RULE_TITLES, STRING_FIELDS};
+use crate::{MOST_CELLS, POINTER, STRING_FIELDS};
 use cells::{Descriptor, Store};
 use rules::key_of;
 
@@ -20,7 +20,7 @@ pub fn spells<S: Store>(store: &S, title: u32, text: &[u8]) -> Result<bool, Heap
     let places = store.places();
     let t = store.descriptor(title)?;
     if title > MOST_CELLS || t.kind > MOST_CELLS || places == 0 {
-        return Err(HeapFault::Unlawful(RULE_TITLES, title));
+        return Err(HeapFault::Unlawful(Rule::Titles, title));
     }
     if t.kind as usize != text.len() {
         return Ok(false);
@@ -39,7 +39,7 @@ pub fn slot_of(bins: u32, text: &[u8]) -> Result<(u32, u32), HeapFault>
     ensures { 1 ≤ bins → result ≡ Ok (bin bins text.now, ascension bins text.now) }
 {
     if bins == 0 {
-        return Err(HeapFault::Unlawful(RULE_LINKS, 0));
+        return Err(HeapFault::Unlawful(Rule::Links, 0));
     }
     let key = key_of(text);
     Ok((key % bins, key / bins))
@@ -69,7 +69,7 @@ pub fn seek<S: Store>(
         }
         let at = cell_of(link)?;
         if left == 0 || at > MOST_CELLS {
-            return Err(HeapFault::Unlawful(RULE_LINKS, at));
+            return Err(HeapFault::Unlawful(Rule::Links, at));
         }
         left -= 1;
         let same = spells(store, at, text)?;

@@ -6,9 +6,9 @@ ghost use Rattle.arena.specs.Enters.{Takes};
 ghost use Rattle.arena.specs.Finds.{Readable, Spells};
 ghost use Rattle.arena.specs.Texts.{fit_text, ReadOut};
 
-use crate::faults::HeapFault;
+use crate::faults::{HeapFault, Rule};
 use crate::fields::text_length;
-use crate::{LONGEST_TEXT, MOST_CELLS, RULE_TITLES, STRING_FIELDS};
+use crate::{LONGEST_TEXT, MOST_CELLS, STRING_FIELDS};
 use cells::{Store, StoreFault};
 
 // Refuses a text that is too long, or that has a character which the store does not take.
@@ -43,7 +43,7 @@ pub fn spell_out<S: Store>(
     let t = store.descriptor(title)?;
     let length = text_length(t);
     if title > MOST_CELLS || length > MOST_CELLS || places == 0 {
-        return Err(HeapFault::Unlawful(RULE_TITLES, title));
+        return Err(HeapFault::Unlawful(Rule::Titles, title));
     }
     if length as usize > buffer.len() {
         return Ok(None);

@@ -3,8 +3,8 @@ ghost use Rattle.std.specs.Prelude.{◌≡◌, ℕ, ◌+◌, ◌<◌, ◌≤◌,
 ghost use Rattle.rules.specs.Arena.{desc, null_desc};
 ghost use Rattle.arena.specs.Titles.{Back, count, with_mark, cells_of, retitled};
 
-use crate::faults::HeapFault;
-use crate::{MARK, MOST_CELLS, POINTER, RULE_TITLES, RULE_VALUES, STRING, STRING_FIELDS, TITLE};
+use crate::faults::{HeapFault, Rule};
+use crate::{MARK, MOST_CELLS, POINTER, STRING, STRING_FIELDS, TITLE};
 use cells::{Descriptor, Store};
 
 // The title before a cell, and the distance to it.
@@ -18,7 +18,7 @@ pub fn title_of<S: Store>(store: &S, cell: u32) -> Result<(u32, u32), HeapFault>
             return Ok((at, cell - at));
         }
         if at == 0 {
-            return Err(HeapFault::Unlawful(RULE_TITLES, cell));
+            return Err(HeapFault::Unlawful(Rule::Titles, cell));
         }
         at -= 1;
     }
@@ -29,7 +29,7 @@ pub fn cell_of(d: Descriptor) -> Result<u32, HeapFault>
     ensures { (p : ℕ) → d.value ≡ pos p → result ≡ Ok p }
 {
     if d.value < 0 {
-        return Err(HeapFault::Unlawful(RULE_VALUES, 0));
+        return Err(HeapFault::Unlawful(Rule::Values, 0));
     }
     Ok(d.value as u32)
 }
@@ -39,7 +39,7 @@ pub fn pointer_at(cell: u32, kind: u32) -> Result<Descriptor, HeapFault>
     ensures { cell ≤ 65535 → result ≡ Ok (desc (pos cell) 16 kind) }
 {
     if cell > MOST_CELLS {
-        return Err(HeapFault::Unlawful(RULE_VALUES, cell));
+        return Err(HeapFault::Unlawful(Rule::Values, cell));
     }
     Ok(Descriptor {
         value: cell as i32,
@@ -64,7 +64,7 @@ pub fn new_title(d: Descriptor, to: u32) -> Result<Descriptor, HeapFault>
     ensures { to ≤ 65535 → result ≡ Ok (retitled d to) }
 {
     if to > MOST_CELLS {
-        return Err(HeapFault::Unlawful(RULE_TITLES, to));
+        return Err(HeapFault::Unlawful(Rule::Titles, to));
     }
     Ok(Descriptor {
         value: to as i32,
@@ -90,7 +90,7 @@ pub fn cells_of(d: Descriptor, places: u32) -> Result<u32, HeapFault>
     ensures some { IfOk result (λ n. (1 ≤ n) × (n ≤ 65540)) }
 {
     if d.kind == 0 || d.kind > MOST_CELLS || places == 0 {
-        return Err(HeapFault::Unlawful(RULE_TITLES, 0));
+        return Err(HeapFault::Unlawful(Rule::Titles, 0));
     }
     if d.flags & STRING == 0 {
         return Ok(d.kind + 1);

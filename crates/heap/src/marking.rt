@@ -8,7 +8,7 @@ ghost use Rattle.heap.specs.Marks.{Valued, Queue, Added, Visited, Scanned, Marke
 ghost use Rattle.heap.specs.Walks.{Tiled, Searched};
 
 use crate::descriptors::{holds, is_pointer};
-use arena::faults::HeapFault;
+use arena::faults::{HeapFault, Rule};
 use arena::titles::{cell_of, cells_of, field_count, marked, title_of};
 use arena::{MARK, MOST_CELLS, STRING};
 use cells::{Descriptor, Store};
@@ -28,7 +28,7 @@ pub fn enqueue<S: Store>(
         return Ok(tail);
     }
     if tail >= work.len() {
-        return Err(HeapFault::Unlawful(0, 0));
+        return Err(HeapFault::Unlawful(Rule::Titles, title));
     }
     store.set_descriptor(title, marked(t))?;
     work[tail] = title;
@@ -66,7 +66,7 @@ pub fn scan<S: Store>(
     let t = store.descriptor(title)?;
     let n = field_count(t);
     if title > MOST_CELLS || n > MOST_CELLS {
-        return Err(HeapFault::Unlawful(0, 0));
+        return Err(HeapFault::Unlawful(Rule::Titles, title));
     }
     let mut end = tail;
     for k in 0..n {
@@ -87,7 +87,7 @@ pub fn drain<S: Store>(store: &mut S, work: &mut [u32], tail: usize) -> Result<u
     let mut head = 0;
     while head < end {
         if head >= work.len() {
-            return Err(HeapFault::Unlawful(0, 0));
+            return Err(HeapFault::Unlawful(Rule::Titles, 0));
         }
         end = scan(store, work[head], work, end)?;
         head += 1;
@@ -128,7 +128,7 @@ pub fn mark_string<S: Store>(
         return Ok(tail);
     }
     if at > MOST_CELLS {
-        return Err(HeapFault::Unlawful(0, 0));
+        return Err(HeapFault::Unlawful(Rule::Titles, at));
     }
     let value = store.descriptor(at + 1)?;
     let label = store.descriptor(at + 2)?;
@@ -151,7 +151,7 @@ pub fn mark_strings<S: Store>(
 {
     let places = store.places();
     if next > MOST_CELLS {
-        return Err(HeapFault::Unlawful(0, 0));
+        return Err(HeapFault::Unlawful(Rule::Next, 0));
     }
     let mut at = bins;
     let mut end = tail;

@@ -5,7 +5,7 @@ ghost use Rattle.heap.specs.Walks.{Slid, Tiled, Tabled, Brought, Packed};
 ghost use Rattle.heap.specs.Moves.{Hits, Ready, Relocating, Relocated, Prepared, Shifting};
 
 use crate::descriptors::is_pointer;
-use arena::faults::HeapFault;
+use arena::faults::{HeapFault, Rule};
 use arena::titles::{cell_of, cells_of, field_count, new_title, pointer_at, title_of};
 use arena::{MARK, MOST_CELLS};
 use cells::{Descriptor, Store};
@@ -17,7 +17,7 @@ pub fn layout<S: Store>(store: &S, bins: u32, next: u32, work: &mut [u32]) -> Re
 {
     let places = store.places();
     if next > MOST_CELLS {
-        return Err(HeapFault::Unlawful(0, 0));
+        return Err(HeapFault::Unlawful(Rule::Next, 0));
     }
     let mut at = bins;
     let mut to = bins;
@@ -26,7 +26,7 @@ pub fn layout<S: Store>(store: &S, bins: u32, next: u32, work: &mut [u32]) -> Re
         let n = cells_of(t, places)?;
         if t.flags & MARK != 0 {
             if at as usize >= work.len() {
-                return Err(HeapFault::Unlawful(0, 0));
+                return Err(HeapFault::Unlawful(Rule::Titles, at));
             }
             work[at as usize] = to;
             to += n;
@@ -47,11 +47,11 @@ pub fn forward<S: Store>(store: &S, d: Descriptor, work: &[u32]) -> Result<Descr
     let cell = cell_of(d)?;
     let (title, k) = title_of(store, cell)?;
     if title as usize >= work.len() {
-        return Err(HeapFault::Unlawful(0, 0));
+        return Err(HeapFault::Unlawful(Rule::Titles, title));
     }
     let to = work[title as usize];
     if to > MOST_CELLS || k > MOST_CELLS - to {
-        return Err(HeapFault::Unlawful(0, 0));
+        return Err(HeapFault::Unlawful(Rule::Titles, title));
     }
     pointer_at(to + k, d.kind)
 }
@@ -68,7 +68,7 @@ pub fn relocate_block<S: Store>(
         ((result ≡ Ok tt) × Relocating (S.memory store.old) work.now title n (S.memory store.new)) }
 {
     if title > MOST_CELLS || n > MOST_CELLS {
-        return Err(HeapFault::Unlawful(0, 0));
+        return Err(HeapFault::Unlawful(Rule::Titles, title));
     }
     for k in 0..n {
         let d = store.descriptor(title + 1 + k)?;
@@ -92,7 +92,7 @@ pub fn relocate<S: Store>(
 {
     let places = store.places();
     if next > MOST_CELLS {
-        return Err(HeapFault::Unlawful(0, 0));
+        return Err(HeapFault::Unlawful(Rule::Next, 0));
     }
     let mut at = bins;
     while at < next {
@@ -127,7 +127,7 @@ pub fn slide<S: Store>(store: &mut S, from: u32, to: u32, size: u32) -> Result<(
 {
     let cells = store.cells();
     if to > from || from > cells || size > cells - from {
-        return Err(HeapFault::Unlawful(0, 0));
+        return Err(HeapFault::Unlawful(Rule::Titles, from));
     }
     if to == from {
         return Ok(());
@@ -163,7 +163,7 @@ pub fn pack<S: Store>(store: &mut S, bins: u32, next: u32, work: &[u32]) -> Resu
 {
     let places = store.places();
     if next > MOST_CELLS {
-        return Err(HeapFault::Unlawful(0, 0));
+        return Err(HeapFault::Unlawful(Rule::Next, 0));
     }
     let mut at = bins;
     while at < next {
@@ -171,7 +171,7 @@ pub fn pack<S: Store>(store: &mut S, bins: u32, next: u32, work: &[u32]) -> Resu
         let n = cells_of(t, places)?;
         if t.flags & MARK != 0 {
             if at as usize >= work.len() {
-                return Err(HeapFault::Unlawful(0, 0));
+                return Err(HeapFault::Unlawful(Rule::Titles, at));
             }
             bring(store, t, at, work[at as usize], n)?;
         }

@@ -7,7 +7,7 @@ ghost use Rattle.heap.specs.Walks.{Tiled};
 ghost use Rattle.heap.specs.Threads.{Led, Linkable, Threading, Headed, Heading};
 
 use crate::descriptors::{is_pointer, last_link};
-use arena::faults::HeapFault;
+use arena::faults::{HeapFault, Rule};
 use arena::titles::{cell_of, cells_of, pointer_at};
 use arena::{MARK, MOST_CELLS, STRING, STRING_FIELDS};
 use cells::{Descriptor, Store};
@@ -26,12 +26,12 @@ pub fn relinked<S: Store>(store: &S, d: Descriptor, work: &[u32]) -> Result<Desc
         let t = store.descriptor(at)?;
         if t.flags & MARK != 0 {
             if at as usize >= work.len() {
-                return Err(HeapFault::Unlawful(0, 0));
+                return Err(HeapFault::Unlawful(Rule::Titles, at));
             }
             return pointer_at(work[at as usize], d.kind);
         }
         if left == 0 || at > MOST_CELLS {
-            return Err(HeapFault::Unlawful(0, 0));
+            return Err(HeapFault::Unlawful(Rule::Chains, at));
         }
         left -= 1;
         link = store.descriptor(at + 1 + STRING_FIELDS)?;
@@ -62,7 +62,7 @@ pub fn thread_links<S: Store>(
 {
     let places = store.places();
     if next > MOST_CELLS {
-        return Err(HeapFault::Unlawful(0, 0));
+        return Err(HeapFault::Unlawful(Rule::Next, 0));
     }
     let mut at = bins;
     while at < next {

@@ -16,7 +16,7 @@ use crate::space::{State, Workspace};
 use arena::LONGEST_TEXT;
 use arena::blocks::{fit as fit_block, make_block};
 use arena::entering::enter_text;
-use arena::faults::HeapFault;
+use arena::faults::{HeapFault, Rule};
 use arena::strings::find;
 use arena::texts::fit as fit_text;
 use arena::titles::pointer_at;
@@ -51,7 +51,7 @@ impl<S: Store> Workspace<S> {
             RoomOf m a (view S.memory self.old) need (view S.memory self.new) result }
     {
         let State::Opened(bins, next) = self.state else {
-            return Err(HeapFault::Unlawful(1, 0));
+            return Err(HeapFault::Unlawful(Rule::Next, 0));
         };
         let mut first = next;
         let answer = make_room(
@@ -121,7 +121,7 @@ impl<S: Store> Workspace<S> {
             Regains m a (view S.memory self.old) need (view S.memory self.new) result }
     {
         let State::Opened(bins, next) = self.state else {
-            return Err(HeapFault::Unlawful(1, 0));
+            return Err(HeapFault::Unlawful(Rule::Next, 0));
         };
         let first = regenerate(&mut self.cells, &mut self.registers, bins, next, work)?;
         self.state = State::Opened(bins, first);
@@ -183,7 +183,7 @@ impl<S: Store> Workspace<S> {
             Enters m a (view S.memory self.old) r text.now (view S.memory self.new) result }
     {
         let State::Opened(bins, _) = self.state else {
-            return Err(HeapFault::Unlawful(1, 0));
+            return Err(HeapFault::Unlawful(Rule::Next, 0));
         };
         let found = find(&self.cells, bins, text)?;
         match found {
