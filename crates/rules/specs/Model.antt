@@ -1,5 +1,5 @@
 -- The plain model: what the calls put where, with pointers to things and not to cells.
-use Rattle.std.specs.Prelude.{◌≡◌, ℕ, ◌+◌, ◌-◌, ◌/◌, ◌<◌, ◌≤◌, Bool, true, false, cond, ◌&&◌, ◌≢◌, List, [], ◌∷◌, length, replicate, ℤ, pos, negsuc, ◌==◌, nat_le, slice_index, slice_index_or}
+use Rattle.std.specs.Prelude.{◌≡◌, ℕ, ◌+◌, ◌-◌, ◌/◌, ◌<◌, ◌≤◌, Bool, true, false, Option, Some, None, cond, ◌&&◌, ◌≢◌, List, [], ◌∷◌, length, replicate, ℤ, pos, negsuc, ◌==◌, nat_le, slice_index, slice_index_or}
 use Rattle.rules.specs.Lists.{In, Once}
 
 -- A text is the list of its characters' codes.
@@ -45,6 +45,10 @@ fields m (string t) = string_fields
 -- The cells of a string of l characters, with c characters to a cell: title, fields, link and characters.
 abbrev pub string_cells : ℕ → ℕ → ℕ
 string_cells c l = 2 + string_fields + ((l - 1) / c + 1)
+
+-- The same where the length is 1 to 1,024 and a cell has 1 to 16 characters, and none elsewhere.
+abbrev pub string_cells_within : ℕ → ℕ → Option ℕ
+string_cells_within l c = cond (nat_le 1 l && nat_le l 1024 && nat_le 1 c && nat_le c 16) (Some (string_cells c l)) None
 
 -- The same where the length is 1 to 1,024 and a cell has 1 to 16 characters, and 0 elsewhere.
 abbrev pub string_cells_or_zero : ℕ → ℕ → ℕ

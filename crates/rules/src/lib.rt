@@ -3,7 +3,7 @@
 
 ghost use Rattle.rules.specs.Compared.{Compared, Determined, Runs, Unaltered};
 ghost use Rattle.std.specs.Prelude.{◌≡◌, ◌+◌, ◌-◌, ◌*◌, ◌%◌, ◌<◌, if◌then◌else◌, Some, None};
-ghost use Rattle.rules.specs.Model.{string_cells_or_zero};
+ghost use Rattle.rules.specs.Model.{string_cells_or_zero, string_cells_within};
 ghost use Rattle.rules.specs.Keys.{key};
 ghost use Rattle.rules.specs.Calls.{first, divides, quotient};
 ghost use Rattle.rules.specs.Requests.{meant};
@@ -38,27 +38,21 @@ pub enum Word {
 }
 
 // Every list of calls has a run on the model, and only one.
-pub fn runs_determined() -> u8
+pub fn runs_determined()
     ensures exist { Runs }
     ensures one { Determined }
-{
-    0
-}
+{}
 
 // A refused call leaves the model as it was.
-pub fn refusals_alter_nothing() -> u8
+pub fn refusals_alter_nothing()
     ensures { Unaltered }
-{
-    0
-}
+{}
 
 // Two workspaces that get one list of calls: they answer alike up to the first "no room" of either, but for the count of
 // collect, and with equal bins and characters to a cell the one with more cells is full no sooner.
-pub fn runs_compared() -> u8
+pub fn runs_compared()
     ensures { Compared }
-{
-    0
-}
+{}
 
 // A call with its arguments, as code hands it on: a text lends its bytes, and read names the length of its buffer.
 #[derive(Clone, Copy, Debug)]
@@ -83,18 +77,18 @@ pub fn first_register(c: Request) -> u32
     ensures { result ≡ first (meant c.entry) }
 {
     match c {
-        Request::Null(r) => r,
-        Request::Number(r, _) => r,
-        Request::Copy(r, _) => r,
-        Request::Make(r, _, _) => r,
-        Request::Text(r, _) => r,
-        Request::Name(r, _, _) => r,
-        Request::Fetch(r, _) => r,
-        Request::Store(r, _) => r,
-        Request::Divide(r, _, _) => r,
-        Request::Kind(r) => r,
-        Request::Read(r, _) => r,
-        Request::Same(r, _) => r,
+        Request::Null(r)
+        | Request::Number(r, _)
+        | Request::Copy(r, _)
+        | Request::Make(r, _, _)
+        | Request::Text(r, _)
+        | Request::Name(r, _, _)
+        | Request::Fetch(r, _)
+        | Request::Store(r, _)
+        | Request::Divide(r, _, _)
+        | Request::Kind(r)
+        | Request::Read(r, _)
+        | Request::Same(r, _) => r,
         Request::Collect(_) => 0,
     }
 }
@@ -103,13 +97,7 @@ pub fn first_register(c: Request) -> u32
 pub fn quotient_of(a: i32, b: i32) -> Option<i32>
     ensures { result ≡ (if divides a b then Some (quotient a b) else None) }
 {
-    if b == 0 {
-        return None;
-    }
-    if a == i32::MIN && b == -1 {
-        return None;
-    }
-    Some(a / b)
+    a.checked_div(b)
 }
 
 // The free cells: those from the first free one on.
@@ -119,14 +107,22 @@ pub fn free_cells(cells: u32, first: u32) -> u32
     cells.saturating_sub(first)
 }
 
-// The cells of a string of `l` characters at `c` to a cell, or 0 outside the limits.
+// The cells of a string of `l` characters at `c` to a cell, if it has 1 to 1,024 and a cell 1 to 16.
+pub fn string_cells(l: u32, c: u32) -> Option<u32>
+    ensures { result ≡ string_cells_within l c }
+{
+    if (1..=1024).contains(&l) && (1..=16).contains(&c) {
+        Some(4 + l.div_ceil(c))
+    } else {
+        None
+    }
+}
+
+// The same, or 0 where there is none.
 pub fn cells_of_string(l: u32, c: u32) -> u32
     ensures { result ≡ string_cells_or_zero l c }
 {
-    if l < 1 || l > 1024 || c < 1 || c > 16 {
-        return 0;
-    }
-    4 + ((l - 1) / c + 1)
+    string_cells(l, c).unwrap_or(0)
 }
 
 // The key with one code more.
@@ -134,7 +130,7 @@ fn mixed(h: u32, code: u8) -> u32
     requires { h < 65521 }
     ensures { result ≡ (31 * h + code) % 65521 }
 {
-    (31 * h + code as u32) % 65521
+    (31 * h + u32::from(code)) % 65521
 }
 
 // The key of some bytes.
