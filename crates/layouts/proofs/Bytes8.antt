@@ -62,11 +62,10 @@ module _ (xs ys : List ℕ) where
         }
 
 -- The part of a list that is a cell's.
-pub part_descriptor : (xs ms : List ℕ) (i : ℕ) → ms ≡ xs → bytes_descriptor (byte (between (8 * i) (8 * i + 8) ms)) ≡ (shown xs).descriptor i
-part_descriptor xs ms i e =
-    same_descriptor (byte (between (8 * i) (8 * i + 8) ms)) (λ j. byte xs (8 * i + j))
-    (λ j h. let l : 8 * i + j < 8 * i + 8 = omega arith in
-    ap (λ (n : ℕ). n % 2 ^ 8) (get_or-between ms (8 * i) (8 * i + 8) j 0 l ∙ ap (λ (zs : List ℕ). get_or zs (8 * i + j) 0) e))
+pub part_descriptor : (xs : List ℕ) (i : ℕ) → bytes_descriptor (byte (between (8 * i) (8 * i + 8) xs)) ≡ (shown xs).descriptor i
+part_descriptor xs i =
+    same_descriptor (byte (between (8 * i) (8 * i + 8) xs)) (λ j. byte xs (8 * i + j))
+    (λ j h. let l : 8 * i + j < 8 * i + 8 = omega arith in ap (λ (n : ℕ). n % 2 ^ 8) (get_or-between xs (8 * i) (8 * i + 8) j 0 l))
 
 -- A cell of eight bytes that was written whole.
 pub put_descriptor : (xs cs : List ℕ) (i k : ℕ) (as_many : length cs ≡ k) (fits : 8 * i + k ≤ length xs) → k ≡ 8 →

@@ -1,5 +1,5 @@
 -- Writes of a whole cell into a row of bytes, over the cell's width.
-use Rattle.std.proofs.Common.{◌≡◌, ℕ, ◌+◌, ◌*◌, ◌<◌, ◌≤◌, ◌≢◌, ◌⊎◌, List, ◌++◌, length, get_or, take, drop, sym, ◌∙◌, inl, inr, ⊎_elim, mul-le-mul_left, mul-add, arith, take_at}
+use Rattle.std.proofs.Common.{◌≡◌, ℕ, ◌+◌, ◌*◌, ◌<◌, ◌≤◌, ◌≢◌, ◌⊎◌, List, length, get_or, inl, inr, ⊎_elim, mul-le-mul_left, mul-add, arith}
 use native.Mathlib.Decide.{dec_lt}
 use borrow.Rule.Slice.PartMut.{put_mid}
 use Rattle.std.proofs.slice.Indexed.{places}
@@ -29,11 +29,6 @@ module _ (xs cs : List ℕ) (a k : ℕ) (as_many : length cs ≡ k) (fits : a + 
 
   pub put_above : (n : ℕ) → a + k ≤ n → get_or (put_mid a k xs cs) n 0 ≡ get_or xs n 0
   put_above n h = grind (arith, places)
-
-  -- The same of a `Vec` whose part was written.
-  pub put_again : (ms ys : List ℕ) (n : ℕ) → ms ≡ xs → n ≡ length xs → ys ≡ cs → take n (put_mid a k ms ys ++ drop (length (put_mid a k ms ys)) xs) ≡ put_mid a k xs cs
-  put_again ms ys n em en ey =
-      rw (em, ey) (take_at (put_mid a k xs cs) (drop (length (put_mid a k xs cs)) xs) n (put_length ∙ sym en))
 
 -- A cell that was written whole: k is its width.
 pub put_one : (w : ℕ) (xs cs : List ℕ) (i k : ℕ) (as_many : length cs ≡ k) (fits : w * i + k ≤ length xs) → k ≡ w → OneCell w xs i (put_mid (w * i) k xs cs)

@@ -70,19 +70,13 @@ impl Store for Byte8 {
     }
 
     fn descriptor(&self, cell: u32) -> Result<Descriptor, StoreFault> {
-        if cell >= self.cells() {
-            return Err(StoreFault::NoCell);
-        }
+        self.check_cell(cell)?;
         Ok(read(&self.bytes, cell))
     }
 
     fn character(&self, cell: u32, place: u32) -> Result<u8, StoreFault> {
-        if cell >= self.cells() {
-            return Err(StoreFault::NoCell);
-        }
-        if place >= self.places() {
-            return Err(StoreFault::NoPlace);
-        }
+        self.check_cell(cell)?;
+        self.check_place(place)?;
         Ok(self.bytes[WIDTH * cell as usize + place as usize])
     }
 
@@ -91,13 +85,9 @@ impl Store for Byte8 {
         ensures kept { OnErr result (self.new ≡ self.old) }
         ensures bytes { OnOk result (OneCell 8 self.old.bytes.items cell self.new.bytes.items) }
     {
-        if cell >= self.cells() {
-            return Err(StoreFault::NoCell);
-        }
-        if d.flags > 31 || d.kind > LARGEST {
-            return Err(StoreFault::BadDescriptor);
-        }
-        write(&mut self.bytes, cell, d);
+        self.check_cell(cell)?;
+        self.check_descriptor(d)?;
+        write(self.bytes.as_mut_slice(), cell, d);
         Ok(())
     }
 
@@ -106,12 +96,8 @@ impl Store for Byte8 {
         ensures kept { OnErr result (self.new ≡ self.old) }
         ensures bytes { OnOk result (OneCell 8 self.old.bytes.items cell self.new.bytes.items) }
     {
-        if cell >= self.cells() {
-            return Err(StoreFault::NoCell);
-        }
-        if place >= self.places() {
-            return Err(StoreFault::NoPlace);
-        }
+        self.check_cell(cell)?;
+        self.check_place(place)?;
         self.bytes[WIDTH * cell as usize + place as usize] = code;
         Ok(())
     }
@@ -121,37 +107,36 @@ impl Store for Byte8 {
         ensures kept { OnErr result (self.new ≡ self.old) }
         ensures bytes { OnOk result (OneCell 8 self.old.bytes.items to self.new.bytes.items) }
     {
-        if from >= self.cells() || to >= self.cells() {
-            return Err(StoreFault::NoCell);
-        }
-        copy(&mut self.bytes, from, to);
+        self.check_cell(from)?;
+        self.check_cell(to)?;
+        copy(self.bytes.as_mut_slice(), from, to);
         Ok(())
     }
 }
 
-fn read(bytes: &Vec<u8>, cell: u32) -> Descriptor
-    requires { 8 * cell + 8 ≤ length bytes.now.items }
-    ensures { result ≡ (shown (bytes.now.items)).descriptor cell }
+fn read(bytes: &[u8], cell: u32) -> Descriptor
+    requires { 8 * cell + 8 ≤ length bytes.now }
+    ensures { result ≡ (shown bytes.now).descriptor cell }
 {
     let at = WIDTH * cell as usize;
     unpack(&bytes[at..at + WIDTH])
 }
 
-fn write(bytes: &mut Vec<u8>, cell: u32, d: Descriptor)
-    requires fits { 8 * cell + 8 ≤ length bytes.old.items }
+fn write(bytes: &mut [u8], cell: u32, d: Descriptor)
+    requires fits { 8 * cell + 8 ≤ length bytes.old }
     requires kind { d.kind ≤ 16777215 }
-    ensures wrote { WroteDescriptor (shown bytes.old.items) cell d (shown bytes.new.items) }
-    ensures one { OneCell 8 bytes.old.items cell bytes.new.items }
+    ensures wrote { WroteDescriptor (shown bytes.old) cell d (shown bytes.new) }
+    ensures one { OneCell 8 bytes.old cell bytes.new }
 {
     let at = WIDTH * cell as usize;
-    bytes.as_mut_slice()[at..at + WIDTH].copy_from_slice(&pack(d));
+    bytes[at..at + WIDTH].copy_from_slice(&pack(d));
 }
 
-fn copy(bytes: &mut Vec<u8>, from: u32, to: u32)
-    requires from { 8 * from + 8 ≤ length bytes.old.items }
-    requires to { 8 * to + 8 ≤ length bytes.old.items }
-    ensures moved { Moved (shown bytes.old.items) from to (shown bytes.new.items) }
-    ensures one { OneCell 8 bytes.old.items to bytes.new.items }
+fn copy(bytes: &mut [u8], from: u32, to: u32)
+    requires from { 8 * from + 8 ≤ length bytes.old }
+    requires to { 8 * to + 8 ≤ length bytes.old }
+    ensures moved { Moved (shown bytes.old) from to (shown bytes.new) }
+    ensures one { OneCell 8 bytes.old to bytes.new }
 {
     let at = WIDTH * from as usize;
     bytes.copy_within(at..at + WIDTH, WIDTH * to as usize);

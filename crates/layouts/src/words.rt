@@ -75,19 +75,13 @@ impl Store for Sixbit {
     }
 
     fn descriptor(&self, cell: u32) -> Result<Descriptor, StoreFault> {
-        if cell >= self.cells() {
-            return Err(StoreFault::NoCell);
-        }
+        self.check_cell(cell)?;
         Ok(unpack(self.words[cell as usize]))
     }
 
     fn character(&self, cell: u32, place: u32) -> Result<u8, StoreFault> {
-        if cell >= self.cells() {
-            return Err(StoreFault::NoCell);
-        }
-        if place >= PLACES {
-            return Err(StoreFault::NoPlace);
-        }
+        self.check_cell(cell)?;
+        self.check_place(place)?;
         Ok(character_at(self.words[cell as usize], place))
     }
 
@@ -96,12 +90,8 @@ impl Store for Sixbit {
         ensures kept { OnErr result (self.new ≡ self.old) }
         ensures words { OnOk result (OneWord self.old.words.items cell self.new.words.items) }
     {
-        if cell >= self.cells() {
-            return Err(StoreFault::NoCell);
-        }
-        if d.flags > 31 || d.kind > LARGEST {
-            return Err(StoreFault::BadDescriptor);
-        }
+        self.check_cell(cell)?;
+        self.check_descriptor(d)?;
         self.words[cell as usize] = pack(d);
         Ok(())
     }
@@ -111,15 +101,9 @@ impl Store for Sixbit {
         ensures kept { OnErr result (self.new ≡ self.old) }
         ensures words { OnOk result (OneWord self.old.words.items cell self.new.words.items) }
     {
-        if cell >= self.cells() {
-            return Err(StoreFault::NoCell);
-        }
-        if place >= PLACES {
-            return Err(StoreFault::NoPlace);
-        }
-        if code < LOWEST || code > HIGHEST {
-            return Err(StoreFault::BadCode);
-        }
+        self.check_cell(cell)?;
+        self.check_place(place)?;
+        self.check_code(code)?;
         let word = self.words[cell as usize];
         self.words[cell as usize] = with_character(word, place, code);
         Ok(())
@@ -130,9 +114,8 @@ impl Store for Sixbit {
         ensures kept { OnErr result (self.new ≡ self.old) }
         ensures words { OnOk result (OneWord self.old.words.items to self.new.words.items) }
     {
-        if from >= self.cells() || to >= self.cells() {
-            return Err(StoreFault::NoCell);
-        }
+        self.check_cell(from)?;
+        self.check_cell(to)?;
         self.words[to as usize] = used(self.words[from as usize]);
         Ok(())
     }

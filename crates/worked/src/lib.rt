@@ -4,11 +4,9 @@
 ghost use Rattle.worked.specs.Worked.{WorkedExamples};
 
 // Every worked example holds.
-pub fn examples_worked() -> u8
+pub fn examples_worked()
     ensures { WorkedExamples }
-{
-    0
-}
+{}
 
 #[cfg(test)]
 mod tests {
