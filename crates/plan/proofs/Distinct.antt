@@ -1,11 +1,13 @@
 -- A set of names, in the order in which each was put in first.
-use Rattle.std.proofs.Common.{◌≡◌, Bool, true, false, cond, eqb, ◌||◌, List, [], ◌∷◌, ◌++◌, fold, sym, refl, ap, ◌∙◌, Bor}
-use Rattle.std.proofs.lemmas.List.{map_push}
+use Rattle.std.proofs.Common.{◌≡◌, Bool, true, false, cond, eqb, ◌||◌, List, [], ◌∷◌, ◌++◌, Option, Result, Ok, Err, IfOk, fold, sym, refl, ap, ◌∙◌, Bor}
+use Rattle.std.proofs.lemmas.List.{map_push, map-id}
 use Rattle.std.proofs.lemmas.Bool.Decides.{same_from_decides, Decides-like}
 use Rattle.std.proofs.lemmas.Slice.Eq.{bytes_eq-Decides}
 use Rattle.std.specs.Cmp.Lexicographic.{pointwise}
+use Rattle.std.proofs.lemmas.Iterator.{YieldsList, items_from_drains}
+use Rattle.std.specs.Iterator.{DrainsIf}
 use Rattle.std.specs.List.{list_any}
-use Rattle.indexmap.specs.IndexSet.{insert_key, insert_all}
+use Rattle.indexmap.specs.IndexSet.{IndexSet, insert_key, insert_all, IsFromIterResult}
 use Rattle.rules.specs.Model.{Text, same_text}
 use Rattle.rules.proofs.Tests.{text_decides}
 use Rattle.plan.specs.Names.{texts, has_text, with_new, distinct}
@@ -40,6 +42,11 @@ all_inserted : (ks ns : List (Bor Text)) → texts (insert_all alike ks ns) ≡ 
 all_inserted ks [] = refl
 all_inserted ks (n ∷ ns) = all_inserted (insert_key alike ks n) ns ∙ ap (λ (ts : List Text). fold with_new ts (texts ns)) (inserted ks n)
 
--- The keys of a set that names were put into, one after the other.
-pub set_of_names : (ns keys : List (Bor Text)) → keys ≡ insert_all alike [] ns → texts keys ≡ distinct (texts ns)
-set_of_names ns keys e = ap texts e ∙ all_inserted [] ns
+-- The set that borrowed names are collected into.
+pub names_from_collect : {I S E : Type 0} {steps : I → Option (Bor Text) → I → Type 0} {i : I} (r : Result (IndexSet (Bor Text) S) E) (ns : List (Bor Text)) →
+    IfOk r (λ v. (xs : List (Bor Text)) × DrainsIf steps (Unit {0}) i xs × ((v.keys ≡ insert_all alike [] xs) × IsFromIterResult alike xs v)) →
+    YieldsList steps (λ x. x) i ns → IfOk r (λ v. texts v.keys ≡ distinct (texts ns))
+names_from_collect (Err e) ns h all = tt
+names_from_collect (Ok v) ns (xs, drained, made) all =
+    let these : xs ≡ ns = sym (map-id xs) ∙ items_from_drains xs drained all in
+    ap texts (made.0 ∙ ap (insert_all alike []) these) ∙ all_inserted [] ns

@@ -4,8 +4,8 @@ ghost use Rattle.plan.specs.declared.tallies.PlanFault.TheVariants.{NoMemory};
 ghost use Rattle.plan.specs.Names.{texts, distinct};
 ghost use Rattle.plan.specs.Plans.{all_taken, cells_in, Planned, Largest};
 
+use crate::names::distinct_of;
 use cells::Store;
-use indexmap::IndexSet;
 use rules::{cells_of_string, key_of};
 use std::alloc::{AllocError, Global};
 use thiserror::Error;
@@ -108,7 +108,7 @@ pub fn plan_for<S: Store>(
 ) -> Result<Tally, PlanFault>
     ensures { Planned (S.memory store.now).figures bins (distinct (texts names.now)) result }
 {
-    let once: IndexSet<&[u8]> = names.iter().copied().collect(heap)?;
+    let once = distinct_of(heap, names)?;
     tallied(heap, store, once.as_slice(), bins)
 }
 
