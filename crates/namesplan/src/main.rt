@@ -19,7 +19,7 @@ fn bins_given(rt: &HostRuntime) -> anyhow::Result<u32> {
     let Some(word) = env::args(rt)?.nth(1) else {
         return Ok(DEFAULT_BINS);
     };
-    Ok(word.as_str().parse().map_err(|_| PlanFault::BadBins)?)
+    Ok(word.parse().map_err(|_| PlanFault::BadBins)?)
 }
 
 // The cells of a name as a line shows them: a dash where the layout cannot hold it.
@@ -73,13 +73,10 @@ fn print_name(
 
 // The lines of a layout: names held, their cells, the arena's cells, and the bins that have the most names.
 fn print_layout(rt: &impl Print, layout: &str, tally: &Tally) -> io::Result<()> {
-    let Tally {
-        names,
-        cells,
-        arena,
-        ..
-    } = tally;
-    println!(rt; "{layout}: {names} names in {cells} cells, an arena of {arena} cells")?;
+    println!(rt;
+        "{layout}: {} names in {} cells, an arena of {} cells",
+        tally.names, tally.cells, tally.arena
+    )?;
     let most = fullest(&tally.by_bin).unwrap_or(0);
     print!(rt; "{layout}: {most} names in each of the fullest bins:")?;
     for (bin, count) in tally.by_bin.iter().enumerate() {
