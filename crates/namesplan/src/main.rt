@@ -1,41 +1,37 @@
 #![tactic(auto)]
 // Reads names, one to a line, and prints what each takes in either layout, and what an arena for all of them needs. The
 // number of bins is the first argument, or 64.
-use anyhow::anyhow;
-use cells::Store;
 use layouts::bytes::Byte8;
 use layouts::words::Sixbit;
 use plan::names::names_of;
-use plan::tallies::{PlanFault, Tally, cells_in, fullest, plan_for};
+use plan::tallies::{LONGEST, PlanFault, Tally, cells_in, fullest, plan_for};
 use rules::key_of;
-use std::alloc::{AllocError, Global};
-use std::env;
+use std::alloc::Global;
 use std::io::Read;
+use std::{env, fmt, io};
 
 const DEFAULT_BINS: u32 = 64;
-
-const NO_BINS: &str = "the bins are a number from 1 to 256";
-
-const LONGEST: usize = 1_024;
 
 // So many bytes of a name that is too long are shown.
 const SHOWN: usize = 60;
 
 fn bins_given(rt: &HostRuntime) -> anyhow::Result<u32> {
-    match env::args(rt)?.nth(1) {
-        Some(word) => match word.as_str().parse::<u32>() {
-            Ok(bins) => Ok(bins),
-            Err(_) => Err(anyhow!("{NO_BINS}")),
-        },
-        None => Ok(DEFAULT_BINS),
-    }
+    let Some(word) = env::args(rt)?.nth(1) else {
+        return Ok(DEFAULT_BINS);
+    };
+    Ok(word.parse().map_err(|_| PlanFault::BadBins)?)
 }
 
-// The cells of a name as text: a dash where the layout cannot hold it.
-fn shown_cells(heap: Global, cells: Option<u32>) -> Result<String, AllocError> {
-    match cells {
-        Some(n) => format!(in heap; "{n}"),
-        None => String::from_str(heap, "-"),
+// The cells of a name as a line shows them: a dash where the layout cannot hold it.
+#[derive(Clone, Copy)]
+struct Cells(Option<u32>);
+
+impl fmt::Display for Cells {
+    fn fmt<W: fmt::Write>(&self, f: &mut fmt::Formatter<W>) -> fmt::Result {
+        match self.0 {
+            Some(n) => n.fmt(f),
+            None => f.pad("-"),
+        }
     }
 }
 
@@ -53,45 +49,34 @@ fn remark(name: &[u8], in_words: Option<u32>) -> &'static str {
 // As much of a name as a line shows.
 fn front(name: &[u8]) -> &[u8] {
     if name.len() > LONGEST {
-        &name[0..SHOWN]
+        &name[..SHOWN]
     } else {
         name
     }
 }
 
-fn print_name(rt: &HostRuntime, byte8: &Byte8, sixbit: &Sixbit, name: &[u8]) -> anyhow::Result<()> {
-    let heap = rt.alloc();
+fn print_name(
+    rt: &impl Print,
+    heap: Global,
+    byte8: &Byte8,
+    sixbit: &Sixbit,
+    name: &[u8],
+) -> anyhow::Result<()> {
     let key = key_of(name);
-    let in_words = cells_in(sixbit, name);
-    let bytes = shown_cells(heap, cells_in(byte8, name))?;
-    let words = shown_cells(heap, in_words)?;
+    let in_bytes = Cells(cells_in(byte8, name));
+    let in_words = Cells(cells_in(sixbit, name));
     let text = String::from_utf8_lossy(heap, front(name))?;
-    let note = remark(name, in_words);
-    println!(rt; "{key:>5} {bytes:>6} {words:>6}  {text}{note}")?;
+    let note = remark(name, in_words.0);
+    println!(rt; "{key:>5} {in_bytes:>6} {in_words:>6}  {text}{note}")?;
     Ok(())
 }
 
-// A plan, or an error in words.
-fn plan_or_error<S: Store>(
-    heap: Global,
-    store: &S,
-    names: &[&[u8]],
-    bins: u32,
-) -> anyhow::Result<Tally> {
-    match plan_for(heap, store, names, bins) {
-        Ok(tally) => Ok(tally),
-        Err(PlanFault::BadBins) => Err(anyhow!("{NO_BINS}")),
-        Err(PlanFault::TooMany) => Err(anyhow!("there are more than 1,048,576 names")),
-        Err(PlanFault::NoMemory) => Err(anyhow!("memory is wanting")),
-    }
-}
-
-// The line of a layout: names held, their cells, the arena's cells, and the bins that have the most names.
-fn print_layout(rt: &HostRuntime, layout: &str, tally: &Tally) -> anyhow::Result<()> {
-    let names = tally.names;
-    let cells = tally.cells;
-    let arena = tally.arena;
-    println!(rt; "{layout}: {names} names in {cells} cells, an arena of {arena} cells")?;
+// The lines of a layout: names held, their cells, the arena's cells, and the bins that have the most names.
+fn print_layout(rt: &impl Print, layout: &str, tally: &Tally) -> io::Result<()> {
+    println!(rt;
+        "{layout}: {} names in {} cells, an arena of {} cells",
+        tally.names, tally.cells, tally.arena
+    )?;
     let most = fullest(&tally.by_bin).unwrap_or(0);
     print!(rt; "{layout}: {most} names in each of the fullest bins:")?;
     for (bin, count) in tally.by_bin.iter().enumerate() {
@@ -99,8 +84,7 @@ fn print_layout(rt: &HostRuntime, layout: &str, tally: &Tally) -> anyhow::Result
             print!(rt; " {bin}")?;
         }
     }
-    println!(rt; "")?;
-    Ok(())
+    println!(rt)
 }
 
 fn run(rt: &HostRuntime) -> anyhow::Result<()> {
@@ -109,14 +93,13 @@ fn run(rt: &HostRuntime) -> anyhow::Result<()> {
     let byte8 = Byte8::with_cells(heap, 0)?;
     let sixbit = Sixbit::with_cells(heap, 0)?;
     let mut input = Vec::new(heap);
-    let mut stdin = rt.stdin();
-    stdin.read_to_end(&mut input)?;
+    rt.stdin().read_to_end(&mut input)?;
     let names = names_of(heap, &input)?;
-    let in_bytes = plan_or_error(heap, &byte8, &names, bins)?;
-    let in_words = plan_or_error(heap, &sixbit, &names, bins)?;
+    let in_bytes = plan_for(heap, &byte8, &names, bins)?;
+    let in_words = plan_for(heap, &sixbit, &names, bins)?;
     println!(rt; "  key  byte8 sixbit  name")?;
-    for name in names.iter() {
-        print_name(rt, &byte8, &sixbit, *name)?;
+    for name in &names {
+        print_name(rt, heap, &byte8, &sixbit, name)?;
     }
     let lines = names.len();
     let distinct = in_bytes.distinct;
@@ -125,7 +108,8 @@ fn run(rt: &HostRuntime) -> anyhow::Result<()> {
     println!(rt; "{lines} lines, {distinct} names: {long} too long, {unfit} not in sixbit")?;
     println!(rt; "{bins} bins")?;
     print_layout(rt, "byte8", &in_bytes)?;
-    print_layout(rt, "sixbit", &in_words)
+    print_layout(rt, "sixbit", &in_words)?;
+    Ok(())
 }
 
 fn main(rt: HostRuntime) -> anyhow::Result<()> {

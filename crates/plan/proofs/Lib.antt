@@ -1,6 +1,3 @@
 mod Lines
-mod Taken
-mod Seen
 mod Distinct
-mod Sums
-mod ByBin
+mod Counts

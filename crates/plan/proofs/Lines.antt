@@ -1,56 +1,46 @@
--- A walk over an input that takes its lines, each up to the byte e: `Walked e xs found start i` has found these names before
--- the line that began at start.
-use Rattle.std.proofs.Common.{◌≡◌, ℕ, ◌+◌, ◌<◌, ◌≤◌, eqb, ◌≢◌, List, [], ◌∷◌, ◌++◌, length, get_or, drop, sym, refl, ap, ◌∙◌, arith}
-use Rattle.std.specs.List.{between}
-use Rattle.std.proofs.lemmas.List.{append_assoc, drop_more, drop_all}
-use Rattle.std.proofs.lemmas.List.Edits.{between_none, between_more}
-use Rattle.std.proofs.lemmas.Slice.{between_to_end}
-use Rattle.std.proofs.lemmas.Bool.{eq-eqb, ne_eqb, cond-true, cond-false}
+-- The names of an input are the parts between its newlines that are not empty.
+use Rattle.std.proofs.Common.{◌≡◌, ℕ, Bool, true, false, cond, not, eqb, ◌≢◌, List, [], ◌∷◌, ◌++◌, length, filter, sym, refl, ap, ◌∙◌, append_assoc, append-nil, arith}
+use Rattle.std.specs.List.{slice_split, onto_first}
+use Rattle.std.proofs.lemmas.Bool.{ne_eqb, cond-true}
 use Rattle.rules.specs.Model.{Text}
-use Rattle.plan.specs.Names.{kept, names_after}
+use Rattle.plan.specs.Names.{kept, names_after, names}
 
-pub record Walked (e : ℕ) (xs : List ℕ) (found : List Text) (start i : ℕ) : Type 0 where
-  pub ordered : start ≤ i
-  pub left : found ++ names_after e (between start i xs) (drop i xs) ≡ names_after e [] xs
+-- A line that is not empty.
+abbrev pub filled : Text → Bool
+filled line = not (eqb (length line) 0)
 
-pub walk_none : (e : ℕ) (xs : List ℕ) → Walked e xs [] 0 0
-walk_none e xs = record { ordered = omega arith; left = refl }
+kept_first : (line : Text) (parts : List Text) → kept line ++ filter filled parts ≡ filter filled (line ∷ parts)
+kept_first [] parts = refl
+kept_first (x ∷ xs) parts =
+    let some : length (x ∷ xs) ≢ 0 = omega arith in sym (cond-true (filled (x ∷ xs)) _ _ (ap not (ne_eqb _ _ some)))
 
-module _ (e : ℕ) (xs : List ℕ) (found : List Text) (start i : ℕ) (w : Walked e xs found start i) (inside : i < length xs) where
-  pub walk_byte : get_or xs i 0 ≢ e → Walked e xs found start (i + 1)
-  walk_byte ne =
-      record {
-        ordered = omega (arith, w.ordered);
-        left =
-            ap (λ (line : Text). found ++ names_after e line (drop (i + 1) xs)) (between_more xs start i 0 w.ordered inside)
-            ∙ ap (λ (ts : List Text). found ++ ts) (sym (cond-false (eqb (get_or xs i 0) e) _ _ (ne_eqb _ _ ne)))
-            ∙ ap (λ (rest : List ℕ). found ++ names_after e (between start i xs) rest) (sym (drop_more xs i 0 inside))
-            ∙ w.left;
-      }
+-- The parts, where the first of them begins with what its line has so far.
+abbrev after : Text → List Text → List Text
+after line [] = line ∷ []
+after line (part ∷ parts) = (line ++ part) ∷ parts
 
-  pub walk_line : (found' : List Text) → get_or xs i 0 ≡ e → found' ≡ found ++ kept (between start i xs) → Walked e xs found' (i + 1) (i + 1)
-  walk_line found' at k =
-      record {
-        ordered = omega arith;
-        left =
-            ap (λ (fs : List Text). fs ++ names_after e (between (i + 1) (i + 1) xs) (drop (i + 1) xs)) k
-            ∙ append_assoc found (kept (between start i xs)) _
-            ∙ ap (λ (line : Text). found ++ (kept (between start i xs) ++ names_after e line (drop (i + 1) xs))) (between_none xs (i + 1))
-            ∙ ap (λ (ts : List Text). found ++ ts) (sym (cond-true (eqb (get_or xs i 0) e) _ _ (eq-eqb _ _ at)))
-            ∙ ap (λ (rest : List ℕ). found ++ names_after e (between start i xs) rest) (sym (drop_more xs i 0 inside))
-            ∙ w.left;
-      }
+after_none : (parts : List Text) → filter filled (after [] parts) ≡ filter filled parts
+after_none [] = refl
+after_none (part ∷ parts) = refl
 
--- The end of the input ends its last line.
-pub walk_all : (e : ℕ) (xs : List ℕ) (found : List Text) (start i : ℕ) (w : Walked e xs found start i) → length xs ≤ i →
-    (found' : List Text) → found' ≡ found ++ kept (drop start xs) → found' ≡ names_after e [] xs
-walk_all e xs found start i w past found' k =
-    k
-    ∙ ap (λ (line : Text). found ++ kept line) (sym (between_to_end xs start i past))
-    ∙ ap (λ (rest : List ℕ). found ++ names_after e (between start i xs) rest) (sym (drop_all i xs past))
-    ∙ w.left
+after_byte : (line : Text) (x : ℕ) (parts : List Text) → after line (onto_first x parts) ≡ after (line ++ (x ∷ [])) parts
+after_byte line x [] = refl
+after_byte line x (part ∷ parts) = ap (λ (p : Text). p ∷ parts) (sym (append_assoc line (x ∷ []) part))
 
--- A line with some bytes is a name.
-pub kept_some : (line : Text) → 0 < length line → kept line ≡ line ∷ []
-kept_some [] h = absurd (omega arith)
-kept_some (x ∷ xs) h = refl
+lines_after : (e : ℕ) (line : Text) (xs : List ℕ) → names_after e line xs ≡ filter filled (after line (slice_split (λ b. eqb b e) xs))
+lines_after e line [] =
+    sym (append-nil (kept line)) ∙ kept_first line [] ∙ ap (λ (l : Text). filter filled (l ∷ [])) (sym (append-nil line))
+lines_after e line (x ∷ xs) = more (eqb x e) (lines_after e [] xs) (lines_after e (line ++ (x ∷ [])) xs)
+  where
+    more : (b : Bool) → names_after e [] xs ≡ filter filled (after [] (slice_split (λ b. eqb b e) xs)) →
+        names_after e (line ++ (x ∷ [])) xs ≡ filter filled (after (line ++ (x ∷ [])) (slice_split (λ b. eqb b e) xs)) →
+        cond b (kept line ++ names_after e [] xs) (names_after e (line ++ (x ∷ [])) xs)
+        ≡ filter filled (after line (cond b ([] ∷ slice_split (λ b. eqb b e) xs) (onto_first x (slice_split (λ b. eqb b e) xs))))
+    more true next same =
+        ap (λ (ns : List Text). kept line ++ ns) (next ∙ after_none (slice_split (λ b. eqb b e) xs))
+        ∙ kept_first line (slice_split (λ b. eqb b e) xs)
+        ∙ ap (λ (l : Text). filter filled (l ∷ slice_split (λ b. eqb b e) xs)) (sym (append-nil line))
+    more false next same = same ∙ ap (filter filled) (sym (after_byte line x (slice_split (λ b. eqb b e) xs)))
+
+pub names_split : (input : List ℕ) → filter filled (slice_split (λ b. eqb b 10) input) ≡ names input
+names_split input = sym (lines_after 10 [] input ∙ after_none (slice_split (λ b. eqb b 10) input))

@@ -1,5 +1,6 @@
 -- What names take in an arena over a store with these figures.
-use Rattle.std.specs.Prelude.{◌≡◌, ℕ, ◌+◌, ◌<◌, ◌≤◌, Bool, true, cond, ◌&&◌, ◌⊎◌, List, [], ◌∷◌, length, Some, None, Ok, Err, vec_items, sum_by, count_by, Option, Result, ◌==◌, nat_le, slice_index}
+use Rattle.std.specs.Prelude.{◌≡◌, ℕ, ◌+◌, ◌<◌, ◌≤◌, Bool, cond, ◌&&◌, ◌⊎◌, List, length, Some, None, Ok, Err, vec_items, sum_by, count_by, Option, Result, ◌==◌, nat_le, slice_index}
+use Rattle.std.specs.List.{list_all}
 use Rattle.cells.specs.Meaning.{Figures}
 use Rattle.rules.specs.Keys.{bin}
 use Rattle.rules.specs.Model.{Text, string_cells}
@@ -10,8 +11,7 @@ use Rattle.plan.specs.declared.tallies.PlanFault.TheVariants.{BadBins, TooMany, 
 
 -- Every character is within the store's codes.
 abbrev pub all_taken : Figures → Text → Bool
-all_taken f [] = true
-all_taken f (x ∷ xs) = takes f x && all_taken f xs
+all_taken f t = list_all (takes f) t
 
 -- The store can hold the name: 1 to 1,024 characters, each within its codes.
 abbrev pub holds : Figures → Text → Bool

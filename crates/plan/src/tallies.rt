@@ -1,16 +1,17 @@
 // What names take in an arena over a store.
-ghost use Rattle.std.specs.Prelude.{◌≡◌, ℕ, ◌<◌, ◌≤◌, length, IfOk, slice_index};
+ghost use Rattle.std.specs.Prelude.{◌≡◌};
 ghost use Rattle.plan.specs.declared.tallies.PlanFault.TheVariants.{NoMemory};
 ghost use Rattle.plan.specs.Names.{texts, distinct};
-ghost use Rattle.plan.specs.Plans.{all_taken, holds as can_hold, cells_in, held, in_bin, all_cells, Planned, Largest};
+ghost use Rattle.plan.specs.Plans.{all_taken, cells_in, Planned, Largest};
 
 use crate::names::distinct_of;
 use cells::Store;
 use rules::{cells_of_string, key_of};
 use std::alloc::{AllocError, Global};
+use thiserror::Error;
 
 // A string has at most so many characters.
-const LONGEST: usize = 1_024;
+pub const LONGEST: usize = 1_024;
 
 const MOST_BINS: u32 = 256;
 
@@ -27,10 +28,13 @@ pub struct Tally {
     pub by_bin: Vec<u32>,
 }
 
-#[derive(Clone, Copy, PartialEq, Eq, Debug)]
+#[derive(Clone, Copy, PartialEq, Eq, Debug, Error)]
 pub enum PlanFault {
+    #[error("the bins are a number from 1 to 256")]
     BadBins,
+    #[error("there are more than 1,048,576 names")]
     TooMany,
+    #[error("memory is wanting")]
     NoMemory,
 }
 
@@ -46,80 +50,19 @@ impl From<AllocError> for PlanFault {
 fn takes_all<S: Store>(store: &S, name: &[u8]) -> bool
     ensures { result ≡ all_taken (S.memory store.now).figures name.now }
 {
-    let lowest = store.lowest();
-    let highest = store.highest();
-    for code in name {
-        if *code < lowest || *code > highest {
-            return false;
-        }
-    }
-    true
+    let codes = store.lowest()..=store.highest();
+    name.iter().all(|code| codes.contains(code))
 }
 
 // The cells that a name's string takes in the store, or None where the store cannot hold it.
 pub fn cells_in<S: Store>(store: &S, name: &[u8]) -> Option<u32>
     ensures { result ≡ cells_in (S.memory store.now).figures name.now }
 {
-    if name.is_empty() || name.len() > LONGEST || !takes_all(store, name) {
-        return None;
+    if (1..=LONGEST).contains(&name.len()) && takes_all(store, name) {
+        Some(cells_of_string(name.len() as u32, store.places()))
+    } else {
+        None
     }
-    Some(cells_of_string(name.len() as u32, store.places()))
-}
-
-// Whether the store can hold a name.
-fn holds<S: Store>(store: &S, name: &[u8]) -> bool
-    ensures { result ≡ can_hold (S.memory store.now).figures name.now }
-{
-    cells_in(store, name).is_some()
-}
-
-// How many of the names the store holds.
-fn held_of<S: Store>(store: &S, names: &[&[u8]]) -> u32
-    requires { length names.now ≤ 1048576 }
-    ensures { result ≡ held (S.memory store.now).figures (texts names.now) }
-{
-    let mut count = 0;
-    for name in names {
-        if holds(store, *name) {
-            count += 1;
-        }
-    }
-    count
-}
-
-// The cells of the strings of all names that the store holds.
-fn all_cells<S: Store>(store: &S, names: &[&[u8]]) -> u32
-    requires { length names.now ≤ 1048576 }
-    ensures value { result ≡ all_cells (S.memory store.now).figures (texts names.now) }
-    ensures bound { result ≤ 1077936128 }
-{
-    let mut cells = 0;
-    for name in names {
-        cells += cells_in(store, *name).unwrap_or(0);
-    }
-    cells
-}
-
-// How many of the names that the store holds fall into each bin.
-fn by_bin<S: Store>(
-    heap: Global,
-    store: &S,
-    names: &[&[u8]],
-    bins: u32,
-) -> Result<Vec<u32>, AllocError>
-    requires few { length names.now ≤ 1048576 }
-    requires some { 1 ≤ bins }
-    ensures { IfOk result (λ v. (length v.items ≡ bins) ×
-        ((b : ℕ) → b < bins → slice_index v.items b ≡ in_bin (S.memory store.now).figures bins b (texts names.now))) }
-{
-    let mut counts = vec![in heap; 0; bins as usize]?;
-    for name in names {
-        if holds(store, *name) {
-            let bin = (key_of(*name) % bins) as usize;
-            counts[bin] += 1;
-        }
-    }
-    Ok(counts)
 }
 
 // What names, each given once, take in an arena over the store.
@@ -131,17 +74,25 @@ fn tallied<S: Store>(
 ) -> Result<Tally, PlanFault>
     ensures { Planned (S.memory store.now).figures bins (texts names.now) result }
 {
-    if bins == 0 || bins > MOST_BINS {
+    if !(1..=MOST_BINS).contains(&bins) {
         return Err(PlanFault::BadBins);
     }
     if names.len() > MOST_NAMES {
         return Err(PlanFault::TooMany);
     }
-    let by_bin = by_bin(heap, store, names, bins)?;
-    let cells = all_cells(store, names);
+    let mut held = 0;
+    let mut cells = 0;
+    let mut by_bin = vec![in heap; 0; bins as usize]?;
+    for &name in names {
+        if let Some(taken) = cells_in(store, name) {
+            held += 1;
+            cells += taken;
+            by_bin[(key_of(name) % bins) as usize] += 1;
+        }
+    }
     Ok(Tally {
         distinct: names.len() as u32,
-        names: held_of(store, names),
+        names: held,
         cells,
         arena: bins + cells,
         by_bin,
@@ -158,7 +109,7 @@ pub fn plan_for<S: Store>(
     ensures { Planned (S.memory store.now).figures bins (distinct (texts names.now)) result }
 {
     let once = distinct_of(heap, names)?;
-    tallied(heap, store, &once, bins)
+    tallied(heap, store, once.as_slice(), bins)
 }
 
 // The largest of some counts, if there are any.
