@@ -1,39 +1,12 @@
 -- Entering a string, at the numbers that the code has.
-use Rattle.std.proofs.Common.{◌≡◌, ℕ, ◌+◌, ◌-◌, ◌*◌, ◌<◌, ◌≤◌, cond, ◌&&◌, leb, List, length, pos, refl, ap, ◌∙◌, subst, div-le_self, arith}
-use Rattle.std.proofs.lemmas.Bool.{cond-true, and_from, le-leb}
+use Rattle.std.proofs.Common.{◌≡◌, ℕ, ◌<◌, ◌≤◌, List, pos, ap, ◌∙◌, subst, div-le_self, arith}
 use Rattle.cells.specs.declared.Descriptor.{Descriptor}
-use Rattle.cells.specs.Meaning.{Memory, Figures, Sound, FitDescriptor, WroteDescriptor}
+use Rattle.cells.specs.Meaning.{Memory, Sound, FitDescriptor, WroteDescriptor}
 use Rattle.rules.specs.Keys.{key, bin, ascension}
-use Rattle.rules.specs.Model.{string_fields, string_cells}
 use Rattle.rules.specs.Arena.{desc}
-use Rattle.arena.specs.Enters.{Backward, Takes, Writing, Framed, Written, Entered, Open}
+use Rattle.arena.specs.Enters.{Backward, Written, Entered, Open}
 use Rattle.arena.proofs.Things.{key_below}
-use Rattle.arena.proofs.Writings.{fits_after, pointer_fits, written, entered}
-
-module _ (o : Memory) (snd : Sound o) (p : ℕ) (t : List ℕ) (l1 : 1 ≤ length t) (l2 : length t ≤ 1024) (room : p + string_cells o.figures.places (length t) ≤ o.figures.cells)
-    (pr : ℕ) (pe : pr ≡ o.figures.places) (n : ℕ) (ne : n ≡ cond (leb 1 (length t) && leb (length t) 1024 && leb 1 pr && leb pr 16) (string_cells pr (length t)) 0) where
-  pub size_is : n ≡ string_cells o.figures.places (length t)
-  size_is =
-      let p1 : 1 ≤ pr = rw pe snd.one_place in
-      let p2 : pr ≤ 16 = rw pe snd.few_places in
-      let b = and_from _ _ (and_from _ _ (and_from _ _ (le-leb 1 (length t) l1) (le-leb (length t) 1024 l2)) (le-leb 1 pr p1)) (le-leb pr 16 p2) in
-      ne ∙ cond-true _ _ _ b ∙ ap (λ (c : ℕ). string_cells c (length t)) pe
-
-  pub next_small : p ≤ 65535
-  next_small = let f = snd.few in omega arith
-
-  pub frame_room : p + 2 + string_fields ≤ o.figures.cells
-  frame_room = omega arith
-
-  module _ (d : Descriptor) (r1 : Memory) (fr : Framed o p (length t) d r1) where
-    pub spell_room : p + 2 + string_fields + (n - (2 + string_fields)) ≤ r1.figures.cells
-    spell_room = let e = ap (λ (f : Figures). f.cells) fr.figures in let s = size_is in omega arith
-
-    pub spell_codes : Takes o t → Takes r1 t
-    spell_codes cd = rw fr.figures cd
-
-    pub string_written : (r2 : Memory) → Writing r1 (p + 2 + string_fields) (n - (2 + string_fields)) t ((n - (2 + string_fields)) * r1.figures.places) r2 → Written o p t d r2
-    string_written r2 w = written o p (length t) (n - (2 + string_fields)) t d r1 r2 refl (let s = size_is in omega arith) fr w
+use Rattle.arena.proofs.Writings.{fits_after, pointer_fits, entered}
 
 module _ (o : Memory) (snd : Sound o) (p bins c : ℕ) (t : List ℕ) (op : Open o p (bin bins t) (ascension bins t) c t) (h k : ℕ) (he : h ≡ bin bins t) (ke : k ≡ ascension bins t) where
   pub open_place : Backward o k h o.figures.cells c

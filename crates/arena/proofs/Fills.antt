@@ -1,9 +1,9 @@
 -- The cells of a new block, as they are written.
-use Rattle.std.proofs.Common.{◌≡◌, ℕ, ◌+◌, ◌-◌, ◌<◌, ◌≤◌, pos, sym, refl, ap, ◌∙◌, inl, inr, ⊎_elim, arith}
+use Rattle.std.proofs.Common.{◌≡◌, ℕ, ◌+◌, ◌-◌, ◌<◌, ◌≤◌, sym, refl, ap, ◌∙◌, inl, inr, ⊎_elim, arith}
 use Rattle.cells.specs.declared.Descriptor.{Descriptor}
 use Rattle.cells.specs.Meaning.{Memory, Figures, Sound, FitDescriptor, WroteDescriptor}
-use Rattle.rules.specs.Arena.{desc, null_desc}
-use Rattle.arena.specs.Blocks.{Filled, Made}
+use Rattle.rules.specs.Arena.{null_desc}
+use Rattle.arena.specs.Blocks.{Filled, Headed}
 use Rattle.arena.proofs.Cells.{same, apart, compare_cells}
 use Rattle.arena.proofs.Writings.{fits_after, null_fits}
 
@@ -24,26 +24,20 @@ module _ (o : Memory) (p : ℕ) (d : Descriptor) where
           characters = λ c j h. w.characters c j (⊎_elim (λ u. omega arith) (λ u. omega arith) h) ∙ s.characters c j (⊎_elim (λ u. inl u) (λ u. inr (omega arith)) h);
         }
 
-module _ (o : Memory) (snd : Sound o) (p n : ℕ) (few : n ≤ 65535) (room : p + n + 1 ≤ o.figures.cells) where
-  pub block_small : p ≤ 65535
-  block_small = let f = snd.few in omega arith
+-- A title, and null behind it.
+module _ (o : Memory) (snd : Sound o) (p n : ℕ) (t : Descriptor) (room : p + n + 1 ≤ o.figures.cells) (r : Memory) (w : WroteDescriptor o p t r) where
+  pub nulls_fit : (q : ℕ) → q ≡ p + 1 → (u : Descriptor) → u ≡ null_desc → (q + n ≤ r.figures.cells) × FitDescriptor r.figures u
+  nulls_fit q qe u ue =
+      let e = ap (λ (f : Figures). f.cells) w.figures in
+      let g = ap (λ (f : Figures). f.largest) w.figures in
+      (omega arith, null_fits r.figures u ue (let v = snd.wide in omega arith))
 
-  pub block_title_fits : (t : Descriptor) → t ≡ desc (pos p) 2 n → (p < o.figures.cells) × FitDescriptor o.figures t
-  block_title_fits t e = rw e (omega arith, (omega arith, let w = snd.wide in omega arith))
-
-  module _ (t : Descriptor) (te : t ≡ desc (pos p) 2 n) (u : Descriptor) (ue : u ≡ null_desc) (r : Memory) (w : WroteDescriptor o p t r) where
-    pub fields_fit : (p + 1 + n ≤ r.figures.cells) × FitDescriptor r.figures u
-    fields_fit =
-        let e = ap (λ (f : Figures). f.cells) w.figures in
-        let g = ap (λ (f : Figures). f.largest) w.figures in
-        (omega arith, null_fits r.figures u ue (let v = snd.wide in omega arith))
-
-    pub block_made : (r' : Memory) → Filled r (p + 1) n u r' → Made o p n r'
-    block_made r' f =
-        record {
-          figures = f.figures ∙ w.figures;
-          title = f.descriptors p (inl (omega arith)) ∙ w.here ∙ te;
-          fields = λ j j1 j2. (let e : p + 1 + (j - 1) ≡ p + j = omega arith in ap (λ (c : ℕ). r'.descriptor c) (sym e) ∙ f.done (j - 1) (omega arith) ∙ ue);
-          descriptors = λ c h. f.descriptors c (⊎_elim (λ x. inl (omega arith)) (λ x. inr (omega arith)) h) ∙ w.descriptors c (⊎_elim (λ x. omega arith) (λ x. omega arith) h);
-          characters = λ c j h. f.characters c j (⊎_elim (λ x. inl (omega arith)) (λ x. inr (omega arith)) h) ∙ w.characters c j (⊎_elim (λ x. omega arith) (λ x. omega arith) h);
-        }
+  pub headed : (q : ℕ) → q ≡ p + 1 → (u : Descriptor) → u ≡ null_desc → (r' : Memory) → Filled r q n u r' → Headed o p t n r'
+  headed q qe u ue r' f =
+      record {
+        figures = f.figures ∙ w.figures;
+        title = f.descriptors p (inl (omega arith)) ∙ w.here;
+        fields = λ j j1 j2. (let e : q + (j - 1) ≡ p + j = omega arith in ap (λ (c : ℕ). r'.descriptor c) (sym e) ∙ f.done (j - 1) (omega arith) ∙ ue);
+        descriptors = λ c h. f.descriptors c (⊎_elim (λ x. inl (omega arith)) (λ x. inr (omega arith)) h) ∙ w.descriptors c (⊎_elim (λ x. omega arith) (λ x. omega arith) h);
+        characters = λ c j h. f.characters c j (⊎_elim (λ x. inl (omega arith)) (λ x. inr (omega arith)) h) ∙ w.characters c j (⊎_elim (λ x. omega arith) (λ x. omega arith) h);
+      }

@@ -213,22 +213,27 @@ module _ (m : Model) (a : Arena) (o : Memory) (snd : Sound o) (sh : Shows m a o)
 
 -- At the numbers that the code has.
 module _ (m : Model) (a : Arena) (t : Text) (bins end : ℕ) (o : Memory) (snd : Sound o) (fr : Fresh m a t bins end o) where
-  pub fresh_bins : 1 ≤ bins
+  fresh_bins : 1 ≤ bins
   fresh_bins = rw fr.bins_is fr.shows.lawful.some_bins
 
-  pub fresh_spot : ℕ
+  fresh_spot : ℕ
   fresh_spot = (the_spot m a o snd fr.shows t).0
 
-  pub fresh_open : Open o end (bin bins t) (ascension bins t) fresh_spot t
+  fresh_open : Open o end (bin bins t) (ascension bins t) fresh_spot t
   unfolding fresh_spot
   fresh_open =
       subst (λ (x : ℕ). Open o x (bin bins t) (ascension bins t) fresh_spot t) (sym fr.end_is)
       (subst (λ (x : ℕ). Open o a.«next» (bin x t) (ascension x t) fresh_spot t) (sym fr.bins_is)
       (opens m a o snd fr.shows t fr.some fr.few fr.room fr.codes))
 
-  pub fresh_grown : (r : Memory) → Entered o end t (ascension bins t) fresh_spot r → Grown m a o (string t) m (arena_with_text o.figures.places a t) r
+  fresh_grown : (r : Memory) → Entered o end t (ascension bins t) fresh_spot r → Grown m a o (string t) m (arena_with_text o.figures.places a t) r
   unfolding fresh_spot
   fresh_grown r en =
       grown_by_text m a o snd fr.shows t fr.away fr.some fr.few fr.room r
       (subst (λ (x : ℕ). Entered o x t (ascension a.bins t) fresh_spot r) fr.end_is
       (subst (λ (x : ℕ). Entered o end t (ascension x t) fresh_spot r) fr.bins_is en))
+
+  -- What entering such a text comes to.
+  pub grown_by : {A : Type 0} (r : Memory) → ((c : ℕ) → 1 ≤ bins → Open o end (bin bins t) (ascension bins t) c t → A × Entered o end t (ascension bins t) c r) →
+      A × Grown m a o (string t) m (arena_with_text o.figures.places a t) r
+  grown_by r h = let e = h fresh_spot fresh_bins fresh_open in (e.0, fresh_grown r e.1)

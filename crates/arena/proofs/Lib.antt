@@ -1,5 +1,6 @@
 pub mod Outcomes
 pub mod Cells
+pub mod Follows
 pub mod Seeks
 pub mod Things
 pub mod Findings

@@ -1,63 +1,39 @@
 -- The way along a chain to the head or link behind which a new string goes.
-use Rattle.std.proofs.Common.{◌≡◌, ℕ, ◌+◌, ◌-◌, ◌<◌, ◌≤◌, ◌≢◌, pos, sym, ap, ◌∙◌, subst, arith}
-use lib.Bits.{bit_and}
+use Rattle.std.proofs.Common.{◌≡◌, ℕ, ◌+◌, ◌-◌, ◌<◌, ◌≤◌, ap, ◌∙◌, arith}
 use Rattle.cells.specs.declared.Descriptor.{Descriptor}
 use Rattle.cells.specs.Meaning.{Memory}
 use Rattle.rules.specs.Model.{string_fields}
-use Rattle.arena.specs.Enters.{Holds, Behind, at_last, before, after, Backward}
-use Rattle.arena.proofs.Outcomes.{clash, clear, pos_same}
+use Rattle.arena.specs.Enters.{Behind, at_last, before, after, Backward}
+use Rattle.arena.proofs.Follows.{Leads, ends, leads}
 
-pub backward_none : (o : Memory) (k c n p i : ℕ) → i ≡ n → Backward o k c n p → Backward o k c i p
-backward_none o k c n p i e s = rw e s
+pub backward_below : (o : Memory) (k c n p : ℕ) → Backward o k c n p → c < o.figures.cells
+backward_below o k c n p s = by s.turns s.behind
+  where
+    by : (i : ℕ) → Behind o k p i c → c < o.figures.cells
+    by i (at_last l f e) = l
+    by i (before q z l h m e) = l
+    by i (after u q z l h m w) = l
 
-module _ (o : Memory) (k c n p : ℕ) (s : Backward o k c n p) where
-  pub back_below : c < o.figures.cells
-  back_below = by s.turns s.behind
+module _ (o : Memory) (k c n p : ℕ) where
+  -- What is to come at the string with the title q.
+  pub data Comes (q : ℕ) : Type 0 where
+    stop : k < (o.descriptor (q + 1 + string_fields)).kind → c ≡ p → Comes q
+    on : (o.descriptor (q + 1 + string_fields)).kind ≤ k → Backward o k (q + 1 + string_fields) (n - 1) p → Comes q
+
+  pub backward_leads : Backward o k c n p → (d : Descriptor) → d ≡ o.descriptor c → Leads d (c ≡ p) (λ q. (0 < n) × (q + 1 + string_fields < o.figures.cells) × Comes q)
+  backward_leads s d read = rw read (by s.turns s.few s.behind)
     where
-      by : (i : ℕ) → Behind o k p i c → c < o.figures.cells
-      by i (at_last l f e) = l
-      by i (before q z l h m e) = l
-      by i (after u q z l h m w) = l
+      by : (i : ℕ) → i ≤ n → Behind o k p i c → Leads (o.descriptor c) (c ≡ p) (λ q. (0 < n) × (q + 1 + string_fields < o.figures.cells) × Comes q)
+      by i w (at_last l f e) = ends f e
+      by i w (before q z l h m e) = leads q h.flag h.value (omega arith, h.within, stop m e)
+      by i w (after u q z l h m b) = leads q h.flag h.value (omega arith, h.within, on m (record { turns = u; few = omega arith; behind = b }))
 
-  module _ (d : Descriptor) (read : d ≡ o.descriptor c) where
-    flags_are : (x : ℕ) → (o.descriptor c).flags ≡ x → d.flags ≡ x
-    flags_are x e = ap (λ (y : Descriptor). y.flags) read ∙ e
+  module _ (q : ℕ) (s : Comes q) (x : ℕ) (xe : x ≡ q + 1 + string_fields) (d : Descriptor) (read : d ≡ o.descriptor x) where
+    kind_is : d.kind ≡ (o.descriptor (q + 1 + string_fields)).kind
+    kind_is = ap (λ (y : Descriptor). y.kind) read ∙ ap (λ (y : ℕ). (o.descriptor y).kind) xe
 
-    pub back_end : bit_and d.flags 16 ≡ 0 → c ≡ p
-    back_end z = by s.turns s.behind
-      where
-        by : (i : ℕ) → Behind o k p i c → c ≡ p
-        by i (at_last l f e) = e
-        by i (before q y l h m e) = clash _ (flags_are 16 h.flag) z
-        by i (after u q y l h m w) = clash _ (flags_are 16 h.flag) z
+    pub comes_here : k < d.kind → c ≡ p
+    comes_here l = let e = kind_is in elim s [ stop g h ↦ h | on g h ↦ absurd (omega arith) ]
 
-    pub back_holds : bit_and d.flags 16 ≢ 0 → (0 < n) × ((q : ℕ) × (d.value ≡ pos q) × (q + 1 + string_fields < o.figures.cells))
-    back_holds z = by s.turns s.few s.behind
-      where
-        by : (i : ℕ) → i ≤ n → Behind o k p i c → (0 < n) × ((q : ℕ) × (d.value ≡ pos q) × (q + 1 + string_fields < o.figures.cells))
-        by i w (at_last l f e) = clear _ (flags_are 0 f) z
-        by i w (before q y l h m e) = (omega arith, (q, ap (λ (x : Descriptor). x.value) read ∙ h.value, h.within))
-        by i w (after u q y l h m v) = (omega arith, (q, ap (λ (x : Descriptor). x.value) read ∙ h.value, h.within))
-
-    module _ (at : ℕ) (own : Descriptor) (z : bit_and d.flags 16 ≢ 0) (v : d.value ≡ pos at) (oe : own ≡ o.descriptor (at + 1 + string_fields)) where
-      is : (q : ℕ) → Holds o c q → q ≡ at
-      is q h = pos_same (sym h.value ∙ sym (ap (λ (x : Descriptor). x.value) read) ∙ v)
-
-      kind_is : (q : ℕ) → Holds o c q → own.kind ≡ (o.descriptor (q + 1 + string_fields)).kind
-      kind_is q h = ap (λ (x : Descriptor). x.kind) oe ∙ ap (λ (y : ℕ). (o.descriptor (y + 1 + string_fields)).kind) (sym (is q h))
-
-      pub back_before : k < own.kind → c ≡ p
-      back_before g = by s.turns s.behind
-        where
-          by : (i : ℕ) → Behind o k p i c → c ≡ p
-          by i (at_last l f e) = e
-          by i (before q y l h m e) = e
-          by i (after u q y l h m w) = absurd (let x = kind_is q h in omega arith)
-
-      pub back_more : own.kind ≤ k → Backward o k (at + 1 + string_fields) (n - 1) p
-      back_more g = by s.turns s.few s.behind
-        where
-          by : (i : ℕ) → i ≤ n → Behind o k p i c → Backward o k (at + 1 + string_fields) (n - 1) p
-          by i w (at_last l f e) = clear _ (flags_are 0 f) z
-          by i w (before q y l h m e) = absurd (let x = kind_is q h in omega arith)
-          by i w (after u q y l h m b) = record { turns = u; few = omega arith; behind = subst (λ (x : ℕ). Behind o k p u (x + 1 + string_fields)) (is q h) b }
+    pub comes_on : (i : ℕ) → i ≡ n - 1 → d.kind ≤ k → Backward o k x i p
+    comes_on i z l = let e = kind_is in elim s [ stop g h ↦ absurd (omega arith) | on g h ↦ rw (z, xe) h ]

@@ -1,10 +1,11 @@
 -- The cells of a new string, as they are written.
-use Rattle.std.proofs.Common.{◌≡◌, ℕ, ◌+◌, ◌-◌, ◌*◌, ◌/◌, ◌%◌, ◌<◌, ◌≤◌, Bool, true, false, cond, ltb, ◌≢◌, ◌⊎◌, List, length, get_or, pos, sym, refl, ap, ◌∙◌, subst, inl, inr, ⊎_elim, mod-lt, div-lt_iff_lt-mul, arith, ltb-true}
+use Rattle.std.proofs.Common.{◌≡◌, ℕ, ◌+◌, ◌-◌, ◌*◌, ◌/◌, ◌%◌, ◌<◌, ◌≤◌, Bool, true, false, cond, ltb, ◌≢◌, List, length, get_or, pos, sym, refl, ap, ◌∙◌, subst, inl, inr, ⊎_elim, mod-lt, div-lt_iff_lt-mul, arith, ltb-true}
 use native.Mathlib.Nat.{div-add-mod}
 use Rattle.cells.specs.declared.Descriptor.{Descriptor}
 use Rattle.cells.specs.Meaning.{Memory, Figures, FitDescriptor, FitCode, WroteDescriptor, WroteCharacter}
 use Rattle.rules.specs.Model.{string_fields, string_cells}
 use Rattle.rules.specs.Arena.{desc, null_desc}
+use Rattle.arena.specs.Blocks.{Headed}
 use Rattle.arena.specs.Enters.{code_at, Takes, Writing, Framed, Written, Entered}
 use Rattle.arena.proofs.Cells.{same, apart, compare_cells}
 
@@ -44,43 +45,31 @@ module _ (o : Memory) (p rows : ℕ) (t : List ℕ) where
           characters = λ c j h. (let y = row in w.characters c j (⊎_elim (λ u. omega arith) (λ u. omega arith) h) ∙ s.characters c j h);
         }
 
-    module _ (c : ℕ) (ce : c ≡ o.figures.places) (low : ℕ) (le : low ≡ o.figures.lowest) (x : ℕ) (xe : x ≡ code_at t low k) where
+    module _ (c : ℕ) (ce : c ≡ o.figures.places) (low : ℕ) (le : low ≡ o.figures.lowest) (x : ℕ) (xe : x ≡ code_at t low k) (q : ℕ) (qe : q ≡ p + k / c) where
       pub writing_fits : p + rows ≤ o.figures.cells → o.figures.lowest ≤ o.figures.highest → Takes o t →
-          (p + k / c < r.figures.cells) × (k % c < r.figures.places) × FitCode r.figures x
-      writing_fits b or f = rw (s.figures, ce, xe, le) (let y = row in omega arith, mod-lt k one, code_fits t o.figures k or f)
+          (q < r.figures.cells) × (k % c < r.figures.places) × FitCode r.figures x
+      writing_fits b or f = rw (s.figures, qe, ce, xe, le) (let y = row in omega arith, mod-lt k one, code_fits t o.figures k or f)
 
-      pub writing_more : (r' : Memory) → WroteCharacter r (p + k / c) (k % c) x r' → Writing o p rows t (k + 1) r'
-      writing_more r' w = more_core x r' (rw le at xe) (subst (λ (y : ℕ). WroteCharacter r (p + k / y) (k % y) x r') ce w)
-
-pub rows_below : (j rows c d : ℕ) → c ≡ d → j < rows * c → j < rows * d
-rows_below j rows c d e l = rw (← e) l
+      pub writing_more : (r' : Memory) → WroteCharacter r q (k % c) x r' → Writing o p rows t (k + 1) r'
+      writing_more r' w = more_core x r' (rw le at xe)
+          (subst (λ (y : ℕ). WroteCharacter r (p + k / y) (k % y) x r') ce (subst (λ (y : ℕ). WroteCharacter r y (k % c) x r') qe w))
 
 -- Title, fields and link.
-pub framed : (o : Memory) (p n : ℕ) (t u d : Descriptor) (r1 r2 r3 r4 : Memory) → t ≡ desc (pos p) 6 n → u ≡ null_desc → WroteDescriptor o p t r1 → WroteDescriptor r1 (p + 1) u r2 →
-    WroteDescriptor r2 (p + 2) u r3 → WroteDescriptor r3 (p + 1 + string_fields) d r4 → Framed o p n d r4
-framed o p n t u d r1 r2 r3 r4 te ue a b c e =
+pub framed : (o : Memory) (p n q : ℕ) (d : Descriptor) (r r' : Memory) → Headed o p (desc (pos p) 6 n) string_fields r → q ≡ p + 1 + string_fields → WroteDescriptor r q d r' → Framed o p n d r'
+framed o p n q d r r' h e w =
     record {
-      figures = e.figures ∙ c.figures ∙ b.figures ∙ a.figures;
-      title = e.descriptors p (omega arith) ∙ c.descriptors p (omega arith) ∙ b.descriptors p (omega arith) ∙ a.here ∙ te;
-      value = e.descriptors (p + 1) (omega arith) ∙ c.descriptors (p + 1) (omega arith) ∙ b.here ∙ ue;
-      label = e.descriptors (p + 2) (omega arith) ∙ c.here ∙ ue;
-      link = e.here;
-      descriptors = λ x l. e.descriptors x (last x l) ∙ c.descriptors x (out x l 2 (omega arith)) ∙ b.descriptors x (out x l 1 (omega arith)) ∙ a.descriptors x (⊎_elim (λ y. omega arith) (λ y. omega arith) l);
-      characters = λ x j l. e.characters x j (last x l) ∙ c.characters x j (out x l 2 (omega arith)) ∙ b.characters x j (out x l 1 (omega arith)) ∙ a.characters x j (⊎_elim (λ y. omega arith) (λ y. omega arith) l);
+      figures = w.figures ∙ h.figures;
+      title = w.descriptors p (omega arith) ∙ h.title;
+      value = w.descriptors (p + 1) (omega arith) ∙ h.fields 1 (omega arith) (omega arith);
+      label = w.descriptors (p + 2) (omega arith) ∙ h.fields 2 (omega arith) (omega arith);
+      link = ap (λ (c : ℕ). r'.descriptor c) (sym e) ∙ w.here;
+      descriptors = λ x l. w.descriptors x (⊎_elim (λ y. omega arith) (λ y. omega arith) l) ∙ h.descriptors x (⊎_elim (λ y. inl y) (λ y. inr (omega arith)) l);
+      characters = λ x j l. w.characters x j (⊎_elim (λ y. omega arith) (λ y. omega arith) l) ∙ h.characters x j (⊎_elim (λ y. inl y) (λ y. inr (omega arith)) l);
     }
-  where
-    out : (x : ℕ) → ((x < p) ⊎ (p + 2 + string_fields ≤ x)) → (i : ℕ) → i < 4 → x ≢ p + i
-    out x l i h z = ⊎_elim (λ y. omega arith) (λ y. omega arith) l
-
-    last : (x : ℕ) → ((x < p) ⊎ (p + 2 + string_fields ≤ x)) → x ≢ p + 1 + string_fields
-    last x l z = ⊎_elim (λ y. omega arith) (λ y. omega arith) l
 
 -- A cell and a descriptor fit still after writes that keep the figures.
 pub fits_after : (e f : Figures) → f ≡ e → (c : ℕ) (d : Descriptor) → c < e.cells → FitDescriptor e d → (c < f.cells) × FitDescriptor f d
 fits_after e f i c d l h = rw i (l, h)
-
-pub title_fits : (f : Figures) (t : Descriptor) (p n : ℕ) → t ≡ desc (pos p) 6 n → n ≤ f.largest → FitDescriptor f t
-title_fits f t p n e l = rw e (omega arith, l)
 
 pub null_fits : (f : Figures) (t : Descriptor) → t ≡ null_desc → 1 ≤ f.largest → FitDescriptor f t
 null_fits f t e l = rw e (omega arith, l)

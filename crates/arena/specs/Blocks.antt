@@ -17,10 +17,14 @@ pub record Filled (o : Memory) (p k : ℕ) (d : Descriptor) (r : Memory) : Type 
   pub descriptors : (c : ℕ) → (c < p) ⊎ (p + k ≤ c) → r.descriptor c ≡ o.descriptor c
   pub characters : (c j : ℕ) → (c < p) ⊎ (p + k ≤ c) → r.character c j ≡ o.character c j
 
--- A block of n null fields stands from p on, and no other cell has changed.
-pub record Made (o : Memory) (p n : ℕ) (r : Memory) : Type 0 where
+-- Cell p has the title d, the n cells behind it are null, and no other cell has changed.
+pub record Headed (o : Memory) (p : ℕ) (d : Descriptor) (n : ℕ) (r : Memory) : Type 0 where
   pub figures : r.figures ≡ o.figures
-  pub title : r.descriptor p ≡ desc (pos p) 2 n
+  pub title : r.descriptor p ≡ d
   pub fields : (j : ℕ) → 1 ≤ j → j ≤ n → r.descriptor (p + j) ≡ null_desc
   pub descriptors : (c : ℕ) → (c < p) ⊎ (p + n + 1 ≤ c) → r.descriptor c ≡ o.descriptor c
   pub characters : (c j : ℕ) → (c < p) ⊎ (p + n + 1 ≤ c) → r.character c j ≡ o.character c j
+
+-- A block of n null fields stands from p on, and no other cell has changed.
+abbrev pub Made : Memory → ℕ → ℕ → Memory → Type 0
+Made o p n r = Headed o p (desc (pos p) 2 n) n r

@@ -7,45 +7,38 @@ ghost use Rattle.rules.specs.Arena.{Arena, desc};
 ghost use Rattle.arena.specs.Enters.{Backward, code_at, Takes, Writing, Framed, Written, Open, Entered, Fresh};
 ghost use Rattle.arena.specs.Growth.{arena_with_text, Grown};
 
+use crate::blocks::lay;
+use crate::extent::Extent;
 use crate::faults::{HeapFault, Rule};
-use crate::strings::{precedes, slot_of};
-use crate::titles::{cell_of, null_value, pointer_at};
-use crate::{LONGEST_TEXT, MOST_CELLS, MOST_PLACES, POINTER, STRING, STRING_FIELDS, TITLE};
+use crate::strings::{follow, precedes, slot_of};
+use crate::titles::pointer_at;
+use crate::{CHARACTERS, LINK, LONGEST_TEXT, STRING, STRING_FIELDS, TITLE};
 use cells::{Descriptor, Store};
-use rules::cells_of_string;
+use rules::string_cells;
 
 // The head or link behind which a string with this number goes.
 pub fn place_for<S: Store>(store: &S, head: u32, number: u32) -> Result<u32, HeapFault>
     ensures { (p : ℕ) → Backward (S.memory store.now) number head (S.memory store.now).figures.cells p → result ≡ Ok p }
 {
     let mut cell = head;
-    let mut left = store.cells();
-    loop {
-        let link = store.descriptor(cell)?;
-        if link.flags & POINTER == 0 {
+    for _turn in 0..=store.cells() {
+        let Some(title) = follow(store.descriptor(cell)?)? else {
+            return Ok(cell);
+        };
+        let link = title.saturating_add(LINK);
+        if precedes(number, store.descriptor(link)?) {
             return Ok(cell);
         }
-        let at = cell_of(link)?;
-        if left == 0 || at > MOST_CELLS {
-            return Err(HeapFault::Unlawful(Rule::Links, cell));
-        }
-        left -= 1;
-        let own = store.descriptor(at + 1 + STRING_FIELDS)?;
-        if precedes(number, own) {
-            return Ok(cell);
-        }
-        cell = at + 1 + STRING_FIELDS;
+        cell = link;
     }
+    Err(HeapFault::Unlawful(Rule::Links, cell))
 }
 
 // The code at one place of a string: after the last character stands the lowest.
 pub fn code_for(text: &[u8], lowest: u8, j: u32) -> u8
     ensures { result ≡ code_at text.now lowest j }
 {
-    match text.get(j as usize) {
-        Some(code) => *code,
-        None => lowest,
-    }
+    text.get(j as usize).copied().unwrap_or(lowest)
 }
 
 // Writes the characters of a string into `rows` cells, and the lowest code after the last.
@@ -55,27 +48,15 @@ pub fn spell<S: Store>(store: &mut S, at: u32, rows: u32, text: &[u8]) -> Result
 {
     let places = store.places();
     let lowest = store.lowest();
-    if at > MOST_CELLS || rows > MOST_CELLS || places == 0 || places > MOST_PLACES {
-        return Err(HeapFault::Unlawful(Rule::Titles, at));
-    }
-    for j in 0..rows * places {
-        store.set_character(at + j / places, j % places, code_for(text, lowest, j))?;
+    let all = rows.checked_mul(places).ok_or(HeapFault::NoRoom)?;
+    for j in 0..all {
+        store.set_character(
+            at.saturating_add(j / places),
+            j % places,
+            code_for(text, lowest, j),
+        )?;
     }
     Ok(())
-}
-
-// The title of a string.
-pub fn string_title(at: u32, size: u32) -> Result<Descriptor, HeapFault>
-    ensures { at ≤ 65535 → result ≡ Ok (desc (pos at) 6 size) }
-{
-    if at > MOST_CELLS {
-        return Err(HeapFault::Unlawful(Rule::Titles, at));
-    }
-    Ok(Descriptor {
-        value: at as i32,
-        flags: TITLE | STRING,
-        kind: size,
-    })
 }
 
 // Writes a string's title, its null value and label, and its link.
@@ -83,15 +64,8 @@ pub fn frame<S: Store>(store: &mut S, at: u32, size: u32, link: Descriptor) -> R
     ensures { at + 2 + string_fields ≤ (S.memory store.old).figures.cells → size ≤ 65535 → FitDescriptor (S.memory store.old).figures link →
         ((result ≡ Ok tt) × Framed (S.memory store.old) at size link (S.memory store.new)) }
 {
-    let title = string_title(at, size)?;
-    let null = null_value();
-    if at > MOST_CELLS {
-        return Err(HeapFault::Unlawful(Rule::Titles, at));
-    }
-    store.set_descriptor(at, title)?;
-    store.set_descriptor(at + 1, null)?;
-    store.set_descriptor(at + 2, null)?;
-    store.set_descriptor(at + 1 + STRING_FIELDS, link)?;
+    lay(store, at, TITLE | STRING, size, STRING_FIELDS)?;
+    store.set_descriptor(at.saturating_add(LINK), link)?;
     Ok(())
 }
 
@@ -99,11 +73,7 @@ pub fn frame<S: Store>(store: &mut S, at: u32, size: u32, link: Descriptor) -> R
 pub fn numbered(d: Descriptor, kind: u32) -> Descriptor
     ensures { result ≡ desc d.value d.flags kind }
 {
-    Descriptor {
-        value: d.value,
-        flags: d.flags,
-        kind,
-    }
+    Descriptor { kind, ..d }
 }
 
 // Writes a string with null fields and this link, and gives the first cell after it.
@@ -123,46 +93,32 @@ pub fn write_string<S: Store>(
         return Err(HeapFault::LongText);
     }
     let length = text.len() as u32;
-    let size = cells_of_string(length, store.places());
-    if size < 2 + STRING_FIELDS || next > MOST_CELLS {
-        return Err(HeapFault::Unlawful(Rule::Titles, next));
-    }
+    let size = string_cells(length, store.places()).ok_or(HeapFault::Unlawful(Rule::Titles, next))?;
     frame(store, next, length, link)?;
     spell(
         store,
-        next + 2 + STRING_FIELDS,
-        size - (2 + STRING_FIELDS),
+        next.saturating_add(CHARACTERS),
+        size - CHARACTERS,
         text,
     )?;
-    Ok(next + size)
+    Ok(next.saturating_add(size))
 }
 
 // Enters a string at the first free cell, behind all of its chain whose number is not greater, and gives the first free cell then.
-pub fn enter<S: Store>(store: &mut S, bins: u32, next: u32, text: &[u8]) -> Result<u32, HeapFault>
-    ensures { (c : ℕ) → 1 ≤ bins → Open (S.memory store.old) next (bin bins text.now) (ascension bins text.now) c text.now →
-        ((result ≡ Ok (next + string_cells (S.memory store.old).figures.places (length text.now))) ×
-        Entered (S.memory store.old) next text.now (ascension bins text.now) c (S.memory store.new)) }
-{
-    let (head, number) = slot_of(bins, text)?;
-    let place = place_for(store, head, number)?;
-    let old = store.descriptor(place)?;
-    let end = write_string(store, next, text, numbered(old, number))?;
-    let link = pointer_at(next, old.kind)?;
-    store.set_descriptor(place, link)?;
-    Ok(end)
-}
-
-// Enters a text that the arena does not have, and gives the first free cell then.
-pub fn enter_text<S: Store>(
-    store: &mut S,
-    bins: u32,
-    next: u32,
-    text: &[u8],
-) -> Result<u32, HeapFault>
-    ensures { (m : Model) (a : Arena) → Fresh m a text.now bins next (S.memory store.old) →
-        ((result ≡ Ok (next + string_cells (S.memory store.old).figures.places (length text.now))) ×
+pub fn enter_text<S: Store>(store: &mut S, extent: Extent, text: &[u8]) -> Result<u32, HeapFault>
+    ensures entered { (c : ℕ) → 1 ≤ extent.bins → Open (S.memory store.old) extent.«next» (bin extent.bins text.now) (ascension extent.bins text.now) c text.now →
+        ((result ≡ Ok (extent.«next» + string_cells (S.memory store.old).figures.places (length text.now))) ×
+        Entered (S.memory store.old) extent.«next» text.now (ascension extent.bins text.now) c (S.memory store.new)) }
+    ensures grown { (m : Model) (a : Arena) → Fresh m a text.now extent.bins extent.«next» (S.memory store.old) →
+        ((result ≡ Ok (extent.«next» + string_cells (S.memory store.old).figures.places (length text.now))) ×
         Grown m a (S.memory store.old) (string text.now) m (arena_with_text (S.memory store.old).figures.places a text.now)
         (S.memory store.new)) }
 {
-    enter(store, bins, next, text)
+    let (head, number) = slot_of(extent.bins, text)?;
+    let place = place_for(store, head, number)?;
+    let old = store.descriptor(place)?;
+    let end = write_string(store, extent.next, text, numbered(old, number))?;
+    let link = pointer_at(extent.next, old.kind)?;
+    store.set_descriptor(place, link)?;
+    Ok(end)
 }

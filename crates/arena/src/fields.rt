@@ -1,4 +1,4 @@
-// Fields: how many there are, which one a cell is, and what one holds.
+// Fields: how many there are, their names, and what one holds.
 ghost use Rattle.std.specs.Prelude.{◌≡◌, ℕ, ◌+◌, ◌<◌, ◌≤◌, ◌&&◌, ◌⊎◌, length, pos, Ok, Err, OnErr, nat_le};
 ghost use Rattle.cells.specs.declared.Descriptor.{Descriptor as Desc};
 ghost use Rattle.rules.specs.Model.{Text, Thing, string, Value, Model, fields};
@@ -8,15 +8,14 @@ ghost use Rattle.arena.specs.Stored.{Field, Stored};
 
 use crate::NAME;
 use crate::faults::HeapFault;
-use crate::titles::{field_count, pointer_at, title_of};
+use crate::titles::{field_count, pointer_at};
 use cells::{Descriptor, Store};
 
 // The fields of the block or string with this title.
 pub fn count_at<S: Store>(store: &S, title: u32) -> Result<u32, HeapFault>
     ensures { (m : Model) (a : Arena) (x : Thing) → Shows m a (S.memory store.now) → At m a (S.memory store.now) x title → result ≡ Ok (fields m x) }
 {
-    let t = store.descriptor(title)?;
-    Ok(field_count(t))
+    Ok(field_count(store.descriptor(title)?))
 }
 
 // The length that a string's title tells.
@@ -30,15 +29,14 @@ pub fn text_length(t: Descriptor) -> u32
 pub fn length_at<S: Store>(store: &S, title: u32) -> Result<u32, HeapFault>
     ensures { (m : Model) (a : Arena) (t : Text) → Shows m a (S.memory store.now) → At m a (S.memory store.now) (string t) title → result ≡ Ok (length t) }
 {
-    let t = store.descriptor(title)?;
-    Ok(text_length(t))
+    Ok(text_length(store.descriptor(title)?))
 }
 
 // Whether one of n fields has the number k.
 pub fn is_field(k: u32, n: u32) -> bool
     ensures { result ≡ (nat_le 1 k && nat_le k n) }
 {
-    k >= 1 && k <= n
+    (1..=n).contains(&k)
 }
 
 // The name of field k of the block or string with this title.
@@ -48,18 +46,10 @@ pub fn name_of<S: Store>(store: &S, title: u32, k: u32) -> Result<Descriptor, He
     ensures absent { (m : Model) (a : Arena) (x : Thing) → Shows m a (S.memory store.now) → At m a (S.memory store.now) x title → (k < 1) ⊎ (fields m x < k) →
         result ≡ Err (NoField k) }
 {
-    let n = count_at(store, title)?;
-    if !is_field(k, n) {
+    if !is_field(k, count_at(store, title)?) {
         return Err(HeapFault::NoField(k));
     }
     pointer_at(title.saturating_add(k), NAME)
-}
-
-// The title of the block or string to which a name's cell belongs, and the number of the field.
-pub fn named<S: Store>(store: &S, cell: u32) -> Result<(u32, u32), HeapFault>
-    ensures { (m : Model) (a : Arena) (x : Thing) (k : ℕ) (f : Field m a (S.memory store.now) x k cell) → result ≡ Ok (f.title, k) }
-{
-    title_of(store, cell)
 }
 
 // The value in the field with this cell.
@@ -67,8 +57,7 @@ pub fn fetch_field<S: Store>(store: &S, cell: u32) -> Result<Descriptor, HeapFau
     ensures { (m : Model) (a : Arena) (x : Thing) (k : ℕ) → Field m a (S.memory store.now) x k cell →
         ((d : Desc) × (result ≡ Ok d) × Codes m a (S.memory store.now) (m.field x k) d) }
 {
-    let d = store.descriptor(cell)?;
-    Ok(d)
+    Ok(store.descriptor(cell)?)
 }
 
 // Puts a value into the field with this cell.

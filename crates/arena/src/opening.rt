@@ -5,6 +5,7 @@ ghost use Rattle.rules.specs.Arena.{Shows};
 ghost use Rattle.arena.specs.Opening.{no_head, empty_arena};
 
 use crate::blocks::fill;
+use crate::extent::Extent;
 use crate::faults::HeapFault;
 use cells::{Descriptor, Store};
 
@@ -19,11 +20,11 @@ pub fn no_head() -> Descriptor
     }
 }
 
-// Zeroes the heads, and gives the first free cell.
-pub fn open_arena<S: Store>(store: &mut S, bins: u32) -> Result<u32, HeapFault>
+// Zeroes the heads: no thing lies behind them.
+pub fn open_arena<S: Store>(store: &mut S, bins: u32) -> Result<Extent, HeapFault>
     ensures { 1 ≤ bins → bins ≤ 256 → bins ≤ (S.memory store.old).figures.cells →
-        ((result ≡ Ok bins) × ((S.memory store.new).figures ≡ (S.memory store.old).figures) × Shows empty (empty_arena bins) (S.memory store.new)) }
+        ((result ≡ Ok (record { bins = bins; «next» = bins })) × ((S.memory store.new).figures ≡ (S.memory store.old).figures) × Shows empty (empty_arena bins) (S.memory store.new)) }
 {
     fill(store, 0, bins, no_head())?;
-    Ok(bins)
+    Ok(Extent { bins, next: bins })
 }

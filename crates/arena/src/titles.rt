@@ -1,51 +1,47 @@
 // Titles and pointers: what a descriptor says of its block, and which title a cell belongs to.
 ghost use Rattle.std.specs.Prelude.{◌≡◌, ℕ, ◌+◌, ◌<◌, ◌≤◌, true, false, ◌≢◌, pos, IfOk, Ok};
-ghost use Rattle.rules.specs.Arena.{desc, null_desc};
+ghost use Rattle.rules.specs.Arena.{Arena, desc, null_desc};
+ghost use Rattle.rules.specs.Model.{Model, Thing};
+ghost use Rattle.arena.specs.Stored.{Field};
 ghost use Rattle.arena.specs.Titles.{Back, count, with_mark, cells_of, retitled};
 
 use crate::faults::{HeapFault, Rule};
-use crate::{MARK, MOST_CELLS, POINTER, STRING, STRING_FIELDS, TITLE};
+use crate::{CHARACTERS, MARK, MOST_CELLS, POINTER, STRING, STRING_FIELDS, TITLE};
 use cells::{Descriptor, Store};
 
-// The title before a cell, and the distance to it.
+// The title before a cell, and the distance to it: the number of the field, if the cell is that of a field.
 pub fn title_of<S: Store>(store: &S, cell: u32) -> Result<(u32, u32), HeapFault>
-    ensures { (p k : ℕ) → cell ≡ p + k → cell < (S.memory store.now).figures.cells → Back (S.memory store.now) p k → result ≡ Ok (p, k) }
+    ensures back { (p k : ℕ) → cell ≡ p + k → cell < (S.memory store.now).figures.cells → Back (S.memory store.now) p k → result ≡ Ok (p, k) }
+    ensures named { (m : Model) (a : Arena) (x : Thing) (k : ℕ) (f : Field m a (S.memory store.now) x k cell) → result ≡ Ok (f.title, k) }
 {
-    let mut at = cell;
-    loop {
-        let d = store.descriptor(at)?;
-        if d.flags & TITLE != 0 {
+    for at in (0..=cell).rev() {
+        if store.descriptor(at)?.flags & TITLE != 0 {
             return Ok((at, cell - at));
         }
-        if at == 0 {
-            return Err(HeapFault::Unlawful(Rule::Titles, cell));
-        }
-        at -= 1;
     }
+    Err(HeapFault::Unlawful(Rule::Titles, cell))
 }
 
 // The cell that a pointer holds.
 pub fn cell_of(d: Descriptor) -> Result<u32, HeapFault>
     ensures { (p : ℕ) → d.value ≡ pos p → result ≡ Ok p }
 {
-    if d.value < 0 {
-        return Err(HeapFault::Unlawful(Rule::Values, 0));
-    }
-    Ok(d.value as u32)
+    u32::try_from(d.value).or(Err(HeapFault::Unlawful(Rule::Values, 0)))
+}
+
+// A descriptor that holds a cell.
+pub fn with_cell(cell: u32, flags: u8, kind: u32) -> Result<Descriptor, HeapFault>
+    ensures { cell ≤ 65535 → result ≡ Ok (desc (pos cell) flags kind) }
+{
+    let value = i32::try_from(cell).or(Err(HeapFault::Unlawful(Rule::Values, cell)))?;
+    Ok(Descriptor { value, flags, kind })
 }
 
 // A pointer to a cell.
 pub fn pointer_at(cell: u32, kind: u32) -> Result<Descriptor, HeapFault>
     ensures { cell ≤ 65535 → result ≡ Ok (desc (pos cell) 16 kind) }
 {
-    if cell > MOST_CELLS {
-        return Err(HeapFault::Unlawful(Rule::Values, cell));
-    }
-    Ok(Descriptor {
-        value: cell as i32,
-        flags: POINTER,
-        kind,
-    })
+    with_cell(cell, POINTER, kind)
 }
 
 // A title with the mark.
@@ -53,9 +49,8 @@ pub fn marked(d: Descriptor) -> Descriptor
     ensures { result ≡ with_mark d }
 {
     Descriptor {
-        value: d.value,
         flags: d.flags | MARK,
-        kind: d.kind,
+        ..d
     }
 }
 
@@ -63,14 +58,7 @@ pub fn marked(d: Descriptor) -> Descriptor
 pub fn new_title(d: Descriptor, to: u32) -> Result<Descriptor, HeapFault>
     ensures { to ≤ 65535 → result ≡ Ok (retitled d to) }
 {
-    if to > MOST_CELLS {
-        return Err(HeapFault::Unlawful(Rule::Titles, to));
-    }
-    Ok(Descriptor {
-        value: to as i32,
-        flags: d.flags & (TITLE | STRING),
-        kind: d.kind,
-    })
+    with_cell(to, d.flags & (TITLE | STRING), d.kind)
 }
 
 // The fields of the block with this title.
@@ -95,7 +83,7 @@ pub fn cells_of(d: Descriptor, places: u32) -> Result<u32, HeapFault>
     if d.flags & STRING == 0 {
         return Ok(d.kind + 1);
     }
-    Ok(2 + STRING_FIELDS + ((d.kind - 1) / places + 1))
+    Ok(CHARACTERS + d.kind.div_ceil(places))
 }
 
 // The descriptor of null.
@@ -114,5 +102,5 @@ pub fn is_null(d: Descriptor) -> bool
     ensures yes { result ≡ true → d ≡ null_desc }
     ensures no { result ≡ false → d ≢ null_desc }
 {
-    d.value == 0 && d.flags == 0 && d.kind == 1
+    d == null_value()
 }

@@ -5,6 +5,7 @@ ghost use Rattle.rules.specs.Model.{Model, Value};
 ghost use Rattle.rules.specs.Arena.{Arena, Codes, Proper};
 ghost use Rattle.arena.specs.Values.{held, Means};
 
+use crate::{FIRST_TYPE, LAST_TYPE, NAME, NULL, NUMBER, POINTER, TEXT};
 use cells::Descriptor;
 
 // A value as the cells have it: a pointer is the cell that it points at.
@@ -18,37 +19,18 @@ pub enum Held {
     Other,
 }
 
-// What a descriptor holds by its flags and its kind.
-pub fn read_off(d: Descriptor) -> Held
-    ensures { result ≡ held d }
-{
-    if d.flags == 0 {
-        if d.kind == 1 {
-            Held::Null
-        } else if d.kind == 6 {
-            Held::Number(d.value)
-        } else {
-            Held::Other
-        }
-    } else if d.flags == 16 {
-        if d.kind == 1 {
-            Held::Text(d.value.unsigned_abs())
-        } else if d.kind == 9 {
-            Held::Name(d.value.unsigned_abs())
-        } else if d.kind >= 16 && d.kind <= 255 {
-            Held::Block(d.value.unsigned_abs(), d.kind)
-        } else {
-            Held::Other
-        }
-    } else {
-        Held::Other
-    }
-}
-
-// The value that a descriptor codes.
+// The value that a descriptor codes, by its flags and its kind.
 pub fn decoded(d: Descriptor) -> Held
     ensures flags { result ≡ held d }
     ensures means { (m : Model) (a : Arena) (o : Memory) (v : Value) → Codes m a o v d → Proper m v → Means m a o v result }
 {
-    read_off(d)
+    let cell = d.value.unsigned_abs();
+    match (d.flags, d.kind) {
+        (0, NULL) => Held::Null,
+        (0, NUMBER) => Held::Number(d.value),
+        (POINTER, TEXT) => Held::Text(cell),
+        (POINTER, NAME) => Held::Name(cell),
+        (POINTER, FIRST_TYPE..=LAST_TYPE) => Held::Block(cell, d.kind),
+        _ => Held::Other,
+    }
 }

@@ -1,64 +1,55 @@
-use Rattle.std.proofs.Common.{◌≡◌, pos, Ok, sym, ap, ◌∙◌, ⊎_elim, arith}
+use Rattle.std.proofs.Common.{ℕ, ◌+◌, ◌-◌, ◌<◌, Ok, sym, ap, ◌∙◌, arith}
 use Rattle.std.proofs.lemmas.Bool.{ltb-true, ltb-false}
 use Rattle.cells.proofs.Acts.{descriptor_read}
-use Rattle.arena.proofs.Outcomes.{ok_same, ok_not_err}
-use Rattle.arena.proofs.Places.{backward_none, back_below, back_end, back_holds, back_before, back_more}
+use Rattle.rules.specs.Model.{string_fields}
+use Rattle.arena.specs.Enters.{Backward}
+use Rattle.arena.proofs.Outcomes.{ok_not_err}
+use Rattle.arena.proofs.Follows.{not_failed, at_end, at_next}
+use Rattle.arena.proofs.Places.{Comes, backward_below, backward_leads, comes_here, comes_on}
 use Rattle.arena.proofs.entering.place_for.Goals as goal
+use Rattle.arena.proofs.entering.place_for.Goals.{In-Some}
 
-pub loop-link-init : goal.loop-link-init
-loop-link-init g c p s = backward_none _ _ _ _ p _ c.cells-left.ensures s
+pub returns-in_err-descriptor : goal.returns-in_err-descriptor
+returns-in_err-descriptor g c p w =
+    ok_not_err (descriptor_read (g.S.Store.memory c.args.store.now) _ c.descriptor.result c.descriptor.ensures (backward_below _ _ _ _ p (c.loop-turn.invariant p w).1))
+    c.in_err-descriptor.was
 
-pub returns-in_err-link : goal.returns-in_err-link
-returns-in_err-link g c p w = ok_not_err (descriptor_read (g.S.Store.memory c.args.store.now) _ c.descriptor.result c.descriptor.ensures (back_below _ _ _ _ p (c.loop-link.invariant p w))) c.in_err-link.was
+pub returns-in_err-title : goal.returns-in_err-title
+returns-in_err-title g c p w =
+    not_failed _ c.follow.result c.follow.ensures.last c.follow.ensures.more (backward_leads _ _ _ _ p (c.loop-turn.invariant p w).1 _ c.in_ok-descriptor.ensures.1)
+    c.in_err-title.was
 
-pub returns-then-link-eq0 : goal.returns-then-link-eq0
-returns-then-link-eq0 g c p w =
-    let s = c.loop-link.invariant p w in
-    let de = c.in_ok-link.ensures.1 in
-    ap Ok (back_end _ _ _ _ p s _ de c.if-link-eq0.true)
+pub returns-in_default : goal.returns-in_default
+returns-in_default g c p w =
+    ap Ok (at_end _ c.follow.result c.follow.ensures.last c.follow.ensures.more (backward_leads _ _ _ _ p (c.loop-turn.invariant p w).1 _ c.in_ok-descriptor.ensures.1)
+    (c.in_ok-title.was ∙ ap Ok c.in_default.is))
 
-pub returns-in_err-at : goal.returns-in_err-at
-returns-in_err-at g c p w =
-    let s = c.loop-link.invariant p w in
-    let de = c.in_ok-link.ensures.1 in
-    let j = back_holds _ _ _ _ p s _ de c.if-link-eq0.false in
-    ok_not_err (c.cell_of.ensures j.1.0 j.1.1) c.in_err-at.was
+next : (g : _) (c : In-Some g) (p : ℕ) → Backward (g.S.Store.memory c.args.store.now) c.args.number c.args.head (g.S.Store.memory c.args.store.now).figures.cells p →
+    (0 < (g.S.Store.memory c.args.store.now).figures.cells - c.loop-turn._turn) × (c.in-Some.title + 1 + string_fields < (g.S.Store.memory c.args.store.now).figures.cells) ×
+    Comes (g.S.Store.memory c.args.store.now) c.args.number c.loop-turn.cell ((g.S.Store.memory c.args.store.now).figures.cells - c.loop-turn._turn) p c.in-Some.title
+next g c p w =
+    at_next _ c.follow.result c.follow.ensures.last c.follow.ensures.more c.in-Some.title
+    (backward_leads _ _ _ _ p (c.loop-turn.invariant p w).1 _ c.in_ok-descriptor.ensures.1) (c.in_ok-title.was ∙ ap Ok c.in-Some.is)
 
-pub returns-then-left-eq0 : goal.returns-then-left-eq0
-returns-then-left-eq0 g c p w =
-    let s = c.loop-link.invariant p w in
-    let de = c.in_ok-link.ensures.1 in
-    let j = back_holds _ _ _ _ p s _ de c.if-link-eq0.false in
-    let ae = ok_same _ _ (c.in_ok-at.ensures j.1.0 j.1.1) in
-    let v : c.in_ok-link.link.value ≡ pos c.in_ok-at.at = j.1.1 ∙ ap pos (sym ae) in
-    let l = j.1.2 in let f = (g.met.S.Store.sound c.args.store.now).few in let z = j.0 in
-    absurd (⊎_elim (λ x. omega arith) (λ x. let y = x.1 in omega arith) c.then-left-eq0.either)
-
-pub returns-in_err-own : goal.returns-in_err-own
-returns-in_err-own g c p w =
-    let s = c.loop-link.invariant p w in
-    let de = c.in_ok-link.ensures.1 in
-    let j = back_holds _ _ _ _ p s _ de c.if-link-eq0.false in
-    let ae = ok_same _ _ (c.in_ok-at.ensures j.1.0 j.1.1) in
-    let v : c.in_ok-link.link.value ≡ pos c.in_ok-at.at = j.1.1 ∙ ap pos (sym ae) in
-    ok_not_err (descriptor_read (g.S.Store.memory c.args.store.now) _ c.descriptor-in-loop-link.result c.descriptor-in-loop-link.ensures (let l = j.1.2 in omega arith)) c.in_err-own.was
+pub returns-in_err-descriptor-2 : goal.returns-in_err-descriptor-2
+returns-in_err-descriptor-2 g c p w =
+    let j = next g (goal.at.returns-in_err-descriptor-2 g c).In-Some p w in
+    let l = j.1 in let s = c.saturating_add-link.ensures in let f = (g.met.S.Store.sound c.args.store.now).few in
+    ok_not_err (descriptor_read (g.S.Store.memory c.args.store.now) _ c.descriptor-in-loop-turn.result c.descriptor-in-loop-turn.ensures (omega arith)) c.in_err-descriptor-2.was
 
 pub returns-then-precedes : goal.returns-then-precedes
 returns-then-precedes g c p w =
-    let s = c.loop-link.invariant p w in
-    let de = c.in_ok-link.ensures.1 in
-    let j = back_holds _ _ _ _ p s _ de c.if-link-eq0.false in
-    let ae = ok_same _ _ (c.in_ok-at.ensures j.1.0 j.1.1) in
-    let v : c.in_ok-link.link.value ≡ pos c.in_ok-at.at = j.1.1 ∙ ap pos (sym ae) in
-    let oe = c.in_ok-own.ensures.1 in
-    ap Ok (back_before _ _ _ _ p s _ de c.in_ok-at.at _ c.if-link-eq0.false v oe (ltb-true _ _ (sym c.precedes.ensures ∙ c.if-precedes.true)))
+    let j = next g (goal.at.returns-then-precedes g c).In-Some p w in
+    let l = j.1 in let s = c.saturating_add-link.ensures in let f = (g.met.S.Store.sound c.args.store.now).few in
+    ap Ok (comes_here _ _ _ _ p _ j.2 _ (omega arith) _ c.in_ok-descriptor-2.ensures.1 (ltb-true _ _ (sym c.precedes.ensures ∙ c.if-precedes.true)))
 
-pub loop-link-preserved : goal.loop-link-preserved
-loop-link-preserved g c p w =
-    let s = c.loop-link.invariant p w in
-    let de = c.in_ok-link.ensures.1 in
-    let j = back_holds _ _ _ _ p s _ de c.if-link-eq0.false in
-    let ae = ok_same _ _ (c.in_ok-at.ensures j.1.0 j.1.1) in
-    let v : c.in_ok-link.link.value ≡ pos c.in_ok-at.at = j.1.1 ∙ ap pos (sym ae) in
-    let oe = c.in_ok-own.ensures.1 in
-    back_more _ _ _ _ p s _ de c.in_ok-at.at _ c.if-link-eq0.false v oe (ltb-false _ _ (sym c.precedes.ensures ∙ c.if-precedes.false))
+pub loop-turn-preserved : goal.loop-turn-preserved
+loop-turn-preserved g c p w =
+    let j = next g (goal.at.loop-turn-preserved g c).In-Some p w in
+    let z = j.0 in let l = j.1 in let s = c.saturating_add-link.ensures in let f = (g.met.S.Store.sound c.args.store.now).few in
+    (omega arith, comes_on _ _ _ _ p _ j.2 _ (omega arith) _ c.in_ok-descriptor-2.ensures.1 _ (omega arith) (ltb-false _ _ (sym c.precedes.ensures ∙ c.if-precedes.false)))
+
+pub returns-else-precedes : goal.returns-else-precedes
+returns-else-precedes g c p w =
+    let j = next g (goal.at.returns-else-precedes g c).In-Some p w in
+    let z = j.0 in absurd (omega arith)

@@ -1,11 +1,6 @@
 use Rattle.std.proofs.Common.{refl, arith}
-use Rattle.arena.proofs.Outcomes.{ok_not_err}
 use Rattle.arena.proofs.Openings.{head_fits, opened}
 use Rattle.arena.proofs.opening.open_arena.Goals as goal
-
-pub returns-in_err-fill : goal.returns-in_err-fill
-returns-in_err-fill g c b1 b2 room =
-    ok_not_err (c.fill.ensures (omega arith) (head_fits (g.S.Store.memory c.args.store.now).figures _ c.no_head.ensures)).0 c.in_err-fill.was
 
 pub returns : goal.returns
 returns g c b1 b2 room =

@@ -1,47 +1,21 @@
-use Rattle.std.proofs.Common.{ℕ, ap}
-use Rattle.cells.proofs.Acts.{descriptor_read}
-use Rattle.arena.proofs.Outcomes.{ok_same, ok_not_err}
-use Rattle.arena.proofs.Findings.{some_bins, head_below, sought_there, sought_absent}
+use Rattle.std.proofs.Common.{◌≡◌, ℕ, ◌≤◌, ap}
+use Rattle.rules.specs.Keys.{bin, ascension}
+use Rattle.arena.proofs.Outcomes.{ok_same}
+use Rattle.arena.proofs.Findings.{some_bins, sought_there, sought_absent}
 use Rattle.arena.proofs.strings.find.Goals as goal
+use Rattle.arena.proofs.strings.find.Goals.{In_ok-cell}
 
-pub returns-in_err-cell : goal.returns-in_err-cell
-returns-in_err-cell g c = record {
-  there = λ m a p sh bi l.
-      let n = g.met.S.Store.sound c.args.store.now in
-      ok_not_err (c.slot_of.ensures (some_bins m a _ n sh _ bi)) c.in_err-cell.was;
-  absent = λ m a sh bi away.
-      let n = g.met.S.Store.sound c.args.store.now in
-      ok_not_err (c.slot_of.ensures (some_bins m a _ n sh _ bi)) c.in_err-cell.was;
-}
+slot : (g : _) (c : In_ok-cell g) → 1 ≤ c.args.bins → (c.in_ok-cell.cell ≡ bin c.args.bins c.args.text.now) × (c.in_ok-cell.number ≡ ascension c.args.bins c.args.text.now)
+slot g c n = let e = ok_same _ _ (c.in_ok-cell.ensures n) in (ap (λ (x : ℕ × ℕ). x.0) e, ap (λ (x : ℕ × ℕ). x.1) e)
 
-pub returns-in_err-head : goal.returns-in_err-head
-returns-in_err-head g c = record {
-  there = λ m a p sh bi l.
-      let n = g.met.S.Store.sound c.args.store.now in
-      let se = ok_same _ _ (c.in_ok-cell.ensures (some_bins m a _ n sh _ bi)) in
-      let he = ap (λ (x : ℕ × ℕ). x.0) se in
-      let ke = ap (λ (x : ℕ × ℕ). x.1) se in
-      ok_not_err (descriptor_read (g.S.Store.memory c.args.store.now) _ c.descriptor.result c.descriptor.ensures (head_below m a _ n sh _ bi c.args.text.now _ _ he ke)) c.in_err-head.was;
-  absent = λ m a sh bi away.
-      let n = g.met.S.Store.sound c.args.store.now in
-      let se = ok_same _ _ (c.in_ok-cell.ensures (some_bins m a _ n sh _ bi)) in
-      let he = ap (λ (x : ℕ × ℕ). x.0) se in
-      let ke = ap (λ (x : ℕ × ℕ). x.1) se in
-      ok_not_err (descriptor_read (g.S.Store.memory c.args.store.now) _ c.descriptor.result c.descriptor.ensures (head_below m a _ n sh _ bi c.args.text.now _ _ he ke)) c.in_err-head.was;
-}
+pub returns-clause-there : goal.returns-clause-there
+returns-clause-there g c m a p sh bi l =
+    let n = g.met.S.Store.sound c.args.store.now in
+    let s = slot g (goal.at.returns-clause-there g c).In_ok-cell (some_bins m a _ n sh _ bi) in
+    c.seek.ensures _ (sought_there m a _ n sh _ bi c.args.text.now _ _ s.0 s.1 _ c.in_ok-head.ensures.1 p l)
 
-pub returns : goal.returns
-returns g c = record {
-  there = λ m a p sh bi l.
-      let n = g.met.S.Store.sound c.args.store.now in
-      let se = ok_same _ _ (c.in_ok-cell.ensures (some_bins m a _ n sh _ bi)) in
-      let he = ap (λ (x : ℕ × ℕ). x.0) se in
-      let ke = ap (λ (x : ℕ × ℕ). x.1) se in
-      c.seek.ensures _ (sought_there m a _ n sh _ bi c.args.text.now _ _ he ke _ c.in_ok-head.ensures.1 p l);
-  absent = λ m a sh bi away.
-      let n = g.met.S.Store.sound c.args.store.now in
-      let se = ok_same _ _ (c.in_ok-cell.ensures (some_bins m a _ n sh _ bi)) in
-      let he = ap (λ (x : ℕ × ℕ). x.0) se in
-      let ke = ap (λ (x : ℕ × ℕ). x.1) se in
-      c.seek.ensures _ (sought_absent m a _ n sh _ bi c.args.text.now _ _ he ke _ c.in_ok-head.ensures.1 away);
-}
+pub returns-clause-absent : goal.returns-clause-absent
+returns-clause-absent g c m a sh bi away =
+    let n = g.met.S.Store.sound c.args.store.now in
+    let s = slot g (goal.at.returns-clause-absent g c).In_ok-cell (some_bins m a _ n sh _ bi) in
+    c.seek.ensures _ (sought_absent m a _ n sh _ bi c.args.text.now _ _ s.0 s.1 _ c.in_ok-head.ensures.1 away)

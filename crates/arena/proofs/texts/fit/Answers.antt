@@ -1,24 +1,27 @@
-use Rattle.std.proofs.Common.{refl, inl, inr, arith}
-use Rattle.arena.proofs.Outcomes.{ok_not_err}
-use Rattle.arena.proofs.Fits.{taken, fits_whole, fits_until}
+use Rattle.std.proofs.Common.{◌≡◌, ◌<◌, true, false, length, rules, arith}
+use Rattle.std.specs.List.{AllWithin, HoldsAt}
+use Rattle.std.specs.Option.{MatchOption}
+use Rattle.std.proofs.lemmas.Grind.{common_steps}
+use Rattle.std.proofs.lemmas.Iterator.{IsFirst-from_position, YieldsList-from_slice}
+use borrow.Author.Tests.{tests}
+use Rattle.rules.specs.Calls.{takes}
+use Rattle.arena.proofs.Fits.{fits_whole, fits_until}
 use Rattle.arena.proofs.texts.fit.Goals as goal
-use Rattle.arena.proofs.texts.fit.Goals.{then-code-lowest-via-then-code-lowest, then-code-lowest-via-else-code-lowest+then-code-highest}
+use Rattle.arena.proofs.texts.fit.Goals.{After-position}
 
-pub returns-then-code-lowest : goal.returns-then-code-lowest
-returns-then-code-lowest g c = record {
-  exact = fits_until (g.S.Store.memory c.args.store.now).figures c.args.text.now c.lowest-lowest.result c.highest-highest.result c.loop-place.place
-      c.lowest-lowest.ensures c.highest-highest.ensures (omega arith) c.loop-place.invariant c.loop-place-test.true
-      (elim c.then-code-lowest.branch [
-        | then-code-lowest-via-then-code-lowest w ↦ inl w.if-code-lowest.true
-        | then-code-lowest-via-else-code-lowest+then-code-highest w ↦ inr w.if-code-highest.true
-      ]);
-  taken = λ e. ok_not_err e refl;
-}
+first : (g : _) (c : After-position g) → MatchOption c.position.result
+    (AllWithin (λ x. takes (g.S.Store.memory c.args.store.now).figures x ≡ true) c.args.text.now 0 (length c.args.text.now))
+    (λ i. (i < length c.args.text.now) × HoldsAt (λ x. takes (g.S.Store.memory c.args.store.now).figures x ≡ false) c.args.text.now i ×
+    AllWithin (λ x. takes (g.S.Store.memory c.args.store.now).figures x ≡ true) c.args.text.now 0 i)
+first g c =
+    IsFirst-from_position _ _ c.position.result (λ x. takes (g.S.Store.memory c.args.store.now).figures x ≡ false)
+    (λ x. takes (g.S.Store.memory c.args.store.now).figures x ≡ true) c.position.ensures.ran (YieldsList-from_slice c.args.text.now cc)
+    (λ x q k. grind (arith, common_steps, k)) (λ x q k. (search (rules, tests), grind (arith, common_steps, k)))
 
-pub returns : goal.returns
-returns g c = record {
-  exact = fits_whole (g.S.Store.memory c.args.store.now).figures c.args.text.now c.lowest-lowest.result c.highest-highest.result c.loop-place.place
-      c.lowest-lowest.ensures c.highest-highest.ensures (omega arith) c.loop-place.invariant c.loop-place-test.false;
-  taken = λ e k h. taken (g.S.Store.memory c.args.store.now).figures c.args.text.now c.lowest-lowest.result c.highest-highest.result c.loop-place.place
-      c.lowest-lowest.ensures c.highest-highest.ensures (omega arith) c.loop-place.invariant k (omega (arith, c.loop-place-test.false));
-}
+pub returns-in-None-clause-exact : goal.returns-in-None-clause-exact
+returns-in-None-clause-exact g c =
+    fits_whole (g.S.Store.memory c.args.store.now).figures _ c.if-text-gt-LONGEST_TEXT.false (rw c.in-None.is at (first g (goal.at.returns-in-None-clause-exact g c).After-position))
+
+pub returns-in-Some-clause-exact : goal.returns-in-Some-clause-exact
+returns-in-Some-clause-exact g c =
+    fits_until (g.S.Store.memory c.args.store.now).figures _ c.in-Some.place c.if-text-gt-LONGEST_TEXT.false (rw c.in-Some.is at (first g (goal.at.returns-in-Some-clause-exact g c).After-position))

@@ -1,6 +1,6 @@
 use Rattle.std.proofs.Common.{◌≡◌, ℕ, List, ◌++◌, take, drop}
 use Rattle.arena.specs.Finds.{Readable, Spells}
-use Rattle.arena.proofs.texts.spell_out.Given as goal
+use Rattle.arena.proofs.texts.read_text.Given as goal
 
 abbrev pub invariant-loop-j : goal.invariant-loop-j
 invariant-loop-j g l =
