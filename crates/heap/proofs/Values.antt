@@ -9,10 +9,13 @@ use Rattle.rules.specs.Lists.{In}
 use Rattle.rules.specs.Arena.{desc, null_desc}
 use Rattle.arena.specs.declared.faults.HeapFault.{HeapFault}
 use Rattle.arena.specs.Titles.{Back, count, cells_of}
+use Rattle.heap.specs.declared.blocks.Block.{Block}
+use Rattle.heap.specs.declared.blocks.Blocks.{Blocks}
 use Rattle.heap.specs.Walks.{length_at, Tiled}
 use Rattle.heap.specs.Moves.{Hits, Ready, value, pointer, Goes, value_goes, pointer_goes, Relocating, Relocated, Prepared, Shifting}
 use Rattle.heap.proofs.Cells.{same, apart, compare_cells}
-use Rattle.heap.proofs.Paths.{less, equal, more, order_of, positive, stop_title, below_step}
+use Rattle.heap.proofs.Paths.{less, equal, more, order_of, lower, next_stop}
+use Rattle.heap.proofs.Took.{Took}
 
 back_flags : (m r : Memory) (q k : ℕ) → ((c : ℕ) → (r.descriptor c).flags ≡ (m.descriptor c).flags) → Back m q k → Back r q k
 back_flags m r q k f b = record { title = rw (f q) b.title; passed = λ j l h. rw (f j) (b.passed j l h) }
@@ -149,83 +152,65 @@ module _ (o : Memory) (ts ws : List ℕ) (bins end : ℕ) (a : Tiled o ts bins e
         tails = λ q k j h l m. refl;
       }
 
-  module _ (p : ℕ) (r : Memory) (s : Relocated o ts ws bins end p r) (l : p < end) (n : ℕ) (e : n ≡ length_at o p) (d : Descriptor) (read : d ≡ o.descriptor p) where
-    at : In p ts
-    at = stop_title o ts bins end a p s.stop l
+  module _ (w w' : Blocks) (b : Block) (r : Memory) (t : Took o ts w b r w') (s : Relocated o ts ws bins end w.at r) where
+    read : b.title ≡ o.descriptor w.at
+    read = t.title ∙ s.titles w.at t.here
 
-    lower : (q : ℕ) → In q ts → q < p + n → q ≢ p → q < p
-    lower q h k ne = below_step o ts bins end a p q at h (rw (← e) k) ne
+    mv : count b.title < length_at o w.at
+    mv = rw read (count_below o.figures.places (o.descriptor w.at))
 
-    mv : count d < n
-    mv = rw (read, e) (count_below o.figures.places (o.descriptor p))
-
-    pub fields_fit : p + count d < r.figures.cells
-    fields_fit =
-        let i = ap (λ (x : Figures). x.cells) s.figures in let w = a.within in let x = a.high p at in let y = mv in omega arith
-
-    pub ready_now : Prepared o ts ws → bit_and d.flags 8 ≢ 0 → (k : ℕ) → k < count d → Ready r ws (r.descriptor (p + 1 + k))
-    ready_now pr m k h =
-        rw (s.rest (p + 1 + k) (inr (omega arith))) (ready_flags o r ws _ s.figures s.flags (pr.ready p k at (λ z. m (rw read z)) (rw (ap count read) at h)))
-
-    pub relocated_skip : (r' : Memory) → bit_and d.flags 8 ≡ 0 → r' ≡ r → Relocated o ts ws bins end (p + n) r'
-    relocated_skip r' m i =
-        rw i (record {
-          stop = rw e (a.step p at);
+    pub relocated_skip : bit_and b.title.flags 8 ≡ 0 → Relocated o ts ws bins end w'.at r
+    relocated_skip m =
+        let k = t.onward in
+        record {
+          stop = next_stop o ts bins end a w w' b r t;
           figures = s.figures;
           flags = s.flags;
-          done = λ q k h x mq y. s.done q k h (lower q h x (λ z. mq (rw (z, ← read) m))) mq y;
+          done = λ q k h x mq y. s.done q k h (lower o ts bins end a w w' b r t q h x (λ z. mq (rw (z, ← read) m))) mq y;
           titles = s.titles;
           rest = λ c x. s.rest c (⊎_elim (λ y. inl y) (λ y. inr (omega arith)) x);
           links = s.links;
           tails = s.tails;
-        })
+        }
 
-    pub relocated_keep : (r' r'' : Memory) → bit_and d.flags 8 ≢ 0 → Relocating r ws p (count d) r' → r'' ≡ r' → Relocated o ts ws bins end (p + n) r''
-    relocated_keep r' r'' m b i =
-        rw i (record {
-          stop = rw e (a.step p at);
-          figures = b.figures ∙ s.figures;
-          flags = λ c. b.flags c ∙ s.flags c;
-          done = λ q k h x mq y. elim (compare_cells q p) [
-            | same z ↦ rw z (let y' : k < count d = rw (ap count read, ← z) y in
-                rw (s.rest (p + 1 + k) (inr (omega arith))) at (goes_flags r o ws _ _ (sym s.figures) (λ c. sym (s.flags c)) (b.done k y')))
-            | apart z ↦ (let u = lower q h x z in let v = a.gap q p h at u in let w = count_below o.figures.places (o.descriptor q) in
-                rw (b.rest (q + 1 + k) (inl (omega arith))) (s.done q k h u mq y))
-          ];
-          titles = λ q h. b.rest q (side q 0 h) ∙ s.titles q h;
-          rest = λ c x. (let u = a.low p at in let v = mv in b.rest c (⊎_elim (λ y. inl (omega arith)) (λ y. inr (omega arith)) x) ∙ s.rest c (⊎_elim (λ y. inl y) (λ y. inr (omega arith)) x));
-          links = λ q k h x y. b.rest (q + k) (tail q k h x y) ∙ s.links q k h x y;
-          tails = λ q k j h x y. b.rest_characters (q + k) j (tail q k h x y) ∙ s.tails q k j h x y;
-        })
-      where
-        side : (q k : ℕ) → In q ts → (q ≤ p) ⊎ (p + 1 + count d ≤ q)
-        side q k h = elim (order_of q p)
-            [ less u ↦ inl (omega arith) | equal u ↦ inl (omega arith) | more u ↦ inr (let g = a.gap p q at h u in let v = mv in omega arith) ]
+    module _ (m : bit_and b.title.flags 8 ≢ 0) (v : ℕ) (is : v ≡ count b.title) where
+      pub fields_fit : b.at + v < r.figures.cells
+      fields_fit =
+          let i = ap (λ (x : Figures). x.cells) s.figures in let n = a.within in let x = a.high w.at t.here in let y = mv in let z = t.at in omega arith
 
-        tail : (q k : ℕ) → In q ts → count (o.descriptor q) < k → k < length_at o q → (q + k ≤ p) ⊎ (p + 1 + count d ≤ q + k)
-        tail q k h x y = elim (order_of q p) [
-          | less u ↦ inl (let g = a.gap q p h at u in omega arith)
-          | equal u ↦ inr (let f = ap (λ (c : ℕ). count (o.descriptor c)) u in let g = ap count read in omega arith)
-          | more u ↦ inr (let g = a.gap p q at h u in let v = mv in omega arith)
-        ]
+      pub ready_now : Prepared o ts ws → (k : ℕ) → k < v → Ready r ws (r.descriptor (b.at + 1 + k))
+      ready_now pr k h =
+          rw (t.at, s.rest (w.at + 1 + k) (inr (omega arith))) (ready_flags o r ws _ s.figures s.flags (pr.ready w.at k t.here (λ z. m (rw read z)) (rw (is, ap count read) at h)))
 
-    -- The same for a number v that the code has counted.
-    module _ (v : ℕ) (is : v ≡ count d) where
-      pub fields_fit_v : p + v < r.figures.cells
-      fields_fit_v = rw is fields_fit
+      pub relocated_keep : (r' : Memory) → Relocating r ws b.at v r' → Relocated o ts ws bins end w'.at r'
+      relocated_keep r' g' =
+          let g = rw (t.at, is) at g' in let k = t.onward in let v = mv in
+          record {
+            stop = next_stop o ts bins end a w w' b r t;
+            figures = g.figures ∙ s.figures;
+            flags = λ c. g.flags c ∙ s.flags c;
+            done = λ q k h x mq y. elim (compare_cells q w.at) [
+              | same z ↦ rw z (let y' : k < count b.title = rw (ap count read, ← z) y in
+                  rw (s.rest (w.at + 1 + k) (inr (omega arith))) at (goes_flags r o ws _ _ (sym s.figures) (λ c. sym (s.flags c)) (g.done k y')))
+              | apart z ↦ (let u = lower o ts bins end a w w' b r t q h x z in let v = a.gap q w.at h t.here u in let n = count_below o.figures.places (o.descriptor q) in
+                  rw (g.rest (q + 1 + k) (inl (omega arith))) (s.done q k h u mq y))
+            ];
+            titles = λ q h. g.rest q (side q h) ∙ s.titles q h;
+            rest = λ c x. (let u = a.low w.at t.here in g.rest c (⊎_elim (λ y. inl (omega arith)) (λ y. inr (omega arith)) x) ∙ s.rest c (⊎_elim (λ y. inl y) (λ y. inr (omega arith)) x));
+            links = λ q k h x y. g.rest (q + k) (tail q k h x y) ∙ s.links q k h x y;
+            tails = λ q k j h x y. g.rest_characters (q + k) j (tail q k h x y) ∙ s.tails q k j h x y;
+          }
+        where
+          side : (q : ℕ) → In q ts → (q ≤ w.at) ⊎ (w.at + 1 + count b.title ≤ q)
+          side q h = elim (order_of q w.at)
+              [ less u ↦ inl (omega arith) | equal u ↦ inl (omega arith) | more u ↦ inr (let g = a.gap w.at q t.here h u in let v = mv in omega arith) ]
 
-      pub ready_now_v : Prepared o ts ws → bit_and d.flags 8 ≢ 0 → (k : ℕ) → k < v → Ready r ws (r.descriptor (p + 1 + k))
-      ready_now_v pr m k h = ready_now pr m k (rw is at h)
-
-      pub relocated_keep_v : (r' r'' : Memory) → bit_and d.flags 8 ≢ 0 → Relocating r ws p v r' → r'' ≡ r' → Relocated o ts ws bins end (p + n) r''
-      relocated_keep_v r' r'' m b i = relocated_keep r' r'' m (rw is at b) i
-
-  pub read_relocated : (p : ℕ) (r : Memory) (d : Descriptor) → Relocated o ts ws bins end p r → d ≡ r.descriptor p → d ≡ o.descriptor p
-  read_relocated p r d s e = e ∙ s.rest p (inr (omega arith))
-
-  pub relocated_all : (p : ℕ) (r : Memory) → Relocated o ts ws bins end p r → end ≤ p → Relocated o ts ws bins end end r
-  relocated_all p r s l =
-      ⊎_elim (λ h. absurd (let x = a.high p h in let y = positive o ts bins end a p in omega arith)) (λ e. rw e at s) s.stop
+          tail : (q k : ℕ) → In q ts → count (o.descriptor q) < k → k < length_at o q → (q + k ≤ w.at) ⊎ (w.at + 1 + count b.title ≤ q + k)
+          tail q k h x y = elim (order_of q w.at) [
+            | less u ↦ inl (let g = a.gap q w.at h t.here u in omega arith)
+            | equal u ↦ inr (let f = ap (λ (c : ℕ). count (o.descriptor c)) u in let g = ap count read in omega arith)
+            | more u ↦ inr (let g = a.gap w.at q t.here h u in let v = mv in omega arith)
+          ]
 
 -- A register and what `forward` gives for it.
 pub forward_one : (m : Memory) (ws : List ℕ) (d e : Descriptor) (res : Result Descriptor HeapFault) → d ≡ e → (d.flags ≡ 0 → res ≡ Ok d) →

@@ -6,9 +6,11 @@ ghost use Rattle.rules.specs.Lists.{In};
 ghost use Rattle.heap.specs.Walks.{Tiled};
 ghost use Rattle.heap.specs.Threads.{Led, Linkable, Threading, Headed, Heading};
 
+use crate::blocks::Blocks;
 use crate::descriptors::{is_pointer, last_link};
+use arena::extent::Extent;
 use arena::faults::{HeapFault, Rule};
-use arena::titles::{cell_of, cells_of, pointer_at};
+use arena::titles::{cell_of, pointer_at};
 use arena::{MARK, MOST_CELLS, STRING, STRING_FIELDS};
 use cells::{Descriptor, Store};
 
@@ -51,27 +53,15 @@ pub fn relink<S: Store>(store: &mut S, cell: u32, work: &[u32]) -> Result<(), He
 }
 
 // Gives the link of every marked string its new value.
-pub fn thread_links<S: Store>(
-    store: &mut S,
-    bins: u32,
-    next: u32,
-    work: &[u32],
-) -> Result<(), HeapFault>
-    ensures { (ts : List ℕ) (link : ℕ → Desc) → Tiled (S.memory store.old) ts bins next → Linkable (S.memory store.old) ts work.now link →
-        ((result ≡ Ok tt) × Threading (S.memory store.old) ts link next next (S.memory store.new)) }
+pub fn thread_links<S: Store>(store: &mut S, extent: Extent, work: &[u32]) -> Result<(), HeapFault>
+    ensures { (ts : List ℕ) (link : ℕ → Desc) → Tiled (S.memory store.old) ts extent.bins extent.next → Linkable (S.memory store.old) ts work.now link →
+        ((result ≡ Ok tt) × Threading (S.memory store.old) ts link extent.next extent.next (S.memory store.new)) }
 {
-    let places = store.places();
-    if next > MOST_CELLS {
-        return Err(HeapFault::Unlawful(Rule::Next, 0));
-    }
-    let mut at = bins;
-    while at < next {
-        let t = store.descriptor(at)?;
-        let n = cells_of(t, places)?;
-        if t.flags & MARK != 0 && t.flags & STRING != 0 {
-            relink(store, at + 1 + STRING_FIELDS, work)?;
+    let mut blocks = Blocks::of(extent)?;
+    while let Some(block) = blocks.step(store)? {
+        if block.title.flags & MARK != 0 && block.title.flags & STRING != 0 {
+            relink(store, block.at + 1 + STRING_FIELDS, work)?;
         }
-        at += n;
     }
     Ok(())
 }
