@@ -1,5 +1,5 @@
 -- The walk along a chain to the next marked string, and the new heads and links.
-use Rattle.std.proofs.Common.{◌≡◌, ℕ, ◌+◌, ◌-◌, ◌<◌, ◌≤◌, Bool, true, false, cond, eqb, ◌≢◌, ◌⊎◌, List, length, get_or, ℤ, pos, sym, refl, ap, ◌∙◌, subst, inl, inr, ⊎_elim, arith, eqb-true}
+use Rattle.std.proofs.Common.{◌≡◌, ℕ, ◌+◌, ◌<◌, ◌≤◌, Bool, true, false, cond, eqb, ◌≢◌, ◌⊎◌, List, length, get_or, ℤ, pos, sym, refl, ap, ◌∙◌, subst, inl, inr, ⊎_elim, arith, eqb-true}
 use lib.Bits.{bit_and}
 use Rattle.cells.specs.declared.Descriptor.{Descriptor}
 use Rattle.cells.specs.Meaning.{Memory, Figures, WroteDescriptor, FitDescriptor}
@@ -25,8 +25,8 @@ clear : {A : Type 0} (f : ℕ) → f ≡ 0 → bit_and f 16 ≢ 0 → A
 clear f e z = absurd (z (rw e refl))
 
 module _ (o : Memory) (ts ws : List ℕ) where
-  pub leading_none : (d d' : Descriptor) (n : ℕ) → n ≡ o.figures.cells → Led o ts ws d d' → Leading o ts ws d.kind d' d n
-  leading_none d d' n e s = record { turns = s.turns; few = rw e s.few; leads = s.leads }
+  pub leading_none : (d d' : Descriptor) (n : ℕ) → o.figures.cells ≤ n → Led o ts ws d d' → Leading o ts ws d.kind d' d n
+  leading_none d d' n l s = record { turns = s.turns; few = let f = s.few in omega arith; leads = s.leads }
 
   module _ (k : ℕ) (d' d : Descriptor) (left : ℕ) (s : Leading o ts ws k d' d left) where
     -- The chain ends,
@@ -62,14 +62,14 @@ module _ (o : Memory) (ts ws : List ℕ) where
 
     -- or one that is not marked.
     pub leading_more : (p : ℕ) (t d'' : Descriptor) → bit_and d.flags 16 ≢ 0 → d.value ≡ pos p → t ≡ o.descriptor p → bit_and t.flags 8 ≡ 0 → d'' ≡ o.descriptor (link_cell p) →
-        (0 < left) × Leading o ts ws k d' d'' (left - 1)
+        (0 < left) × ((n : ℕ) → left ≤ n + 1 → Leading o ts ws k d' d'' n)
     leading_more p t d'' z v read m link = by s.turns d s.few s.leads z v
       where
-        by : (n : ℕ) (x : Descriptor) → n ≤ left → Leads o ts ws k d' n x → bit_and x.flags 16 ≢ 0 → x.value ≡ pos p → (0 < left) × Leading o ts ws k d' d'' (left - 1)
+        by : (n : ℕ) (x : Descriptor) → n ≤ left → Leads o ts ws k d' n x → bit_and x.flags 16 ≢ 0 → x.value ≡ pos p → (0 < left) × ((n : ℕ) → left ≤ n + 1 → Leading o ts ws k d' d'' n)
         by n x w (to_end f e) z v = clear _ f z
         by n x w (to_kept q j y l h e) z v = absurd (y (rw (joins_one x q p j v) (rw read at m)))
         by n x w (past i q l j y r) z v =
-            (omega arith, record { turns = i; few = omega arith; leads = subst (λ (e : Descriptor). Leads o ts ws k d' i e) (ap (λ (c : ℕ). o.descriptor (link_cell c)) (joins_one x q p j v) ∙ sym link) r })
+            (omega arith, λ m few. record { turns = i; few = omega arith; leads = subst (λ (e : Descriptor). Leads o ts ws k d' i e) (ap (λ (c : ℕ). o.descriptor (link_cell c)) (joins_one x q p j v) ∙ sym link) r })
 
 -- A way depends on titles and on the links of strings that are not marked.
 pub leads_same : (o r : Memory) (ts ws : List ℕ) (k : ℕ) (d' : Descriptor) → r.figures ≡ o.figures → ((q : ℕ) → In q ts → (r.descriptor q).flags ≡ (o.descriptor q).flags) →

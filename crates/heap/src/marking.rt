@@ -65,17 +65,13 @@ pub fn scan<S: Store>(
     ensures { (m : Memory) (ts : List ℕ) → Queue m ts work.old tail (S.memory store.old) → In title ts →
         ((t : ℕ) × (result ≡ Ok t) × Scanned m ts title (count (m.descriptor title)) work.old tail work.new t (S.memory store.new)) }
 {
-    let t = store.descriptor(title)?;
-    let n = field_count(t);
-    if title > MOST_CELLS || n > MOST_CELLS {
+    let n = field_count(store.descriptor(title)?);
+    if n > MOST_CELLS {
         return Err(HeapFault::Unlawful(Rule::Titles, title));
     }
     let mut end = tail;
-    for k in 0..n {
-        let d = store.descriptor(title + 1 + k)?;
-        if is_pointer(d) {
-            end = visit(store, d, work, end)?;
-        }
+    for cell in title + 1..title + 1 + n {
+        end = visit(store, store.descriptor(cell)?, work, end)?;
     }
     Ok(end)
 }
@@ -86,13 +82,11 @@ pub fn drain<S: Store>(store: &mut S, work: &mut [u32], tail: usize) -> Result<u
         ((t : ℕ) × (result ≡ Ok t) × Marked m ts work.old tail work.new t (S.memory store.new)) }
 {
     let mut end = tail;
-    let mut head = 0;
-    while head < end {
-        if head >= work.len() {
-            return Err(HeapFault::Unlawful(Rule::Titles, 0));
+    for head in 0..work.len() {
+        if head >= end {
+            break;
         }
         end = scan(store, work[head], work, end)?;
-        head += 1;
     }
     Ok(end)
 }

@@ -1,6 +1,7 @@
 // Moving: marked blocks go down to their new cells, and pointers with them. The work list is a table from a title's cell to its new cell.
 ghost use Rattle.std.specs.Prelude.{◌≡◌, ℕ, ◌+◌, ◌<◌, ◌≤◌, List, length, pos, Ok, slice_index, slice_index_or};
 ghost use Rattle.rules.specs.Arena.{desc, null_desc};
+ghost use Rattle.arena.specs.Titles.{count};
 ghost use Rattle.heap.specs.Walks.{Slid, Tiled, Tabled, Brought, Packed};
 ghost use Rattle.heap.specs.Moves.{Hits, Ready, Relocating, Relocated, Prepared, Shifting};
 
@@ -48,34 +49,26 @@ pub fn forward<S: Store>(store: &S, d: Descriptor, work: &[u32]) -> Result<Descr
     if !is_pointer(d) {
         return Ok(d);
     }
-    let cell = cell_of(d)?;
-    let (title, k) = title_of(store, cell)?;
+    let (title, k) = title_of(store, cell_of(d)?)?;
     let to = new_cell(work, title)?;
-    if to > MOST_CELLS || k > MOST_CELLS - to {
-        return Err(HeapFault::Unlawful(Rule::Titles, title));
-    }
-    pointer_at(to + k, d.kind)
+    pointer_at(to.saturating_add(k), d.kind)
 }
 
-// Gives the n cells after a title their new values.
-pub fn relocate_block<S: Store>(
-    store: &mut S,
-    title: u32,
-    n: u32,
-    work: &[u32],
-) -> Result<(), HeapFault>
-    ensures { title + n < (S.memory store.old).figures.cells →
-        ((k : ℕ) → k < n → Ready (S.memory store.old) work.now ((S.memory store.old).descriptor (title + 1 + k))) →
-        ((result ≡ Ok tt) × Relocating (S.memory store.old) work.now title n (S.memory store.new)) }
+// Gives the fields of a block their new values.
+pub fn relocate_block<S: Store>(store: &mut S, block: &Block, work: &[u32]) -> Result<(), HeapFault>
+    ensures { block.now.at + count block.now.title < (S.memory store.old).figures.cells →
+        ((k : ℕ) → k < count block.now.title → Ready (S.memory store.old) work.now ((S.memory store.old).descriptor (block.now.at + 1 + k))) →
+        ((result ≡ Ok tt) × Relocating (S.memory store.old) work.now block.now.at (count block.now.title) (S.memory store.new)) }
 {
-    if title > MOST_CELLS || n > MOST_CELLS {
-        return Err(HeapFault::Unlawful(Rule::Titles, title));
+    let n = field_count(block.title);
+    if n > MOST_CELLS {
+        return Err(HeapFault::Unlawful(Rule::Titles, block.at));
     }
-    for k in 0..n {
-        let d = store.descriptor(title + 1 + k)?;
+    for cell in block.at + 1..block.at + 1 + n {
+        let d = store.descriptor(cell)?;
         if is_pointer(d) {
             let moved = forward(store, d, work)?;
-            store.set_descriptor(title + 1 + k, moved)?;
+            store.set_descriptor(cell, moved)?;
         }
     }
     Ok(())
@@ -89,7 +82,7 @@ pub fn relocate<S: Store>(store: &mut S, extent: Extent, work: &[u32]) -> Result
     let mut blocks = Blocks::of(extent)?;
     while let Some(block) = blocks.step(store)? {
         if block.title.flags & MARK != 0 {
-            relocate_block(store, block.at, field_count(block.title), work)?;
+            relocate_block(store, &block, work)?;
         }
     }
     Ok(())

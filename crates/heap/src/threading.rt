@@ -8,10 +8,11 @@ ghost use Rattle.heap.specs.Threads.{Led, Linkable, Threading, Headed, Heading};
 
 use crate::blocks::Blocks;
 use crate::descriptors::{is_pointer, last_link};
+use crate::moving::new_cell;
 use arena::extent::Extent;
 use arena::faults::{HeapFault, Rule};
 use arena::titles::{cell_of, pointer_at};
-use arena::{MARK, MOST_CELLS, STRING, STRING_FIELDS};
+use arena::{MARK, STRING, STRING_FIELDS};
 use cells::{Descriptor, Store};
 
 // A head or a link, past the strings that are not marked, to the new cell of the next one.
@@ -19,25 +20,18 @@ pub fn relinked<S: Store>(store: &S, d: Descriptor, work: &[u32]) -> Result<Desc
     ensures { (ts : List ℕ) (d' : Desc) → Led (S.memory store.now) ts work.now d d' → result ≡ Ok d' }
 {
     let mut link = d;
-    let mut left = store.cells();
-    loop {
+    for _ in 0..=store.cells() {
         if !is_pointer(link) {
             return Ok(last_link(d));
         }
         let at = cell_of(link)?;
         let t = store.descriptor(at)?;
         if t.flags & MARK != 0 {
-            if at as usize >= work.len() {
-                return Err(HeapFault::Unlawful(Rule::Titles, at));
-            }
-            return pointer_at(work[at as usize], d.kind);
+            return pointer_at(new_cell(work, at)?, d.kind);
         }
-        if left == 0 || at > MOST_CELLS {
-            return Err(HeapFault::Unlawful(Rule::Chains, at));
-        }
-        left -= 1;
         link = store.descriptor(at + 1 + STRING_FIELDS)?;
     }
+    Err(HeapFault::Unlawful(Rule::Chains, link.value.unsigned_abs()))
 }
 
 // Gives one head or link its new value.

@@ -16,17 +16,17 @@ loop-block-preserved-in-Continue-branch-4 g c =
       λ ts a pr.
           let s = c.loop-block.invariant.1 ts a pr in
           let t = took (standing a c.loop-block.invariant.0 s.stop s.figures (s.titles _)) c.in-Some.is c.in_ok-block.ensures.passed c.in_ok-block.ensures.walked in
-          let m = c.if-block-ne0.true in let n = c.field_count.ensures in
-          relocated_keep _ ts _ _ _ a _ _ _ _ t s m _ n _
-          (c.relocate_block.ensures (fields_fit _ ts _ _ _ a _ _ _ _ t s m _ n) (ready_now _ ts _ _ _ a _ _ _ _ t s m _ n pr)).1,
+          let m = c.if-block-ne0.true in
+          relocated_keep _ ts _ _ _ a _ _ _ _ t s m _
+          (c.relocate_block.ensures (fields_fit _ ts _ _ _ a _ _ _ _ t s m) (ready_now _ ts _ _ _ a _ _ _ _ t s m pr)).1,
     )
 
 pub returns-in_err-relocate_block : goal.returns-in_err-relocate_block
 returns-in_err-relocate_block g c ts a pr =
     let s = c.loop-block.invariant.1 ts a pr in
     let t = took (standing a c.loop-block.invariant.0 s.stop s.figures (s.titles _)) c.in-Some.is c.in_ok-block.ensures.passed c.in_ok-block.ensures.walked in
-    let m = c.if-block-ne0.true in let n = c.field_count.ensures in
-    ok_not_err (c.relocate_block.ensures (fields_fit _ ts _ _ _ a _ _ _ _ t s m _ n) (ready_now _ ts _ _ _ a _ _ _ _ t s m _ n pr)).0 c.in_err-relocate_block.was
+    let m = c.if-block-ne0.true in
+    ok_not_err (c.relocate_block.ensures (fields_fit _ ts _ _ _ a _ _ _ _ t s m) (ready_now _ ts _ _ _ a _ _ _ _ t s m pr)).0 c.in_err-relocate_block.was
 
 pub loop-block-preserved : goal.loop-block-preserved
 loop-block-preserved g c =
