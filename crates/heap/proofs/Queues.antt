@@ -195,7 +195,8 @@ module _ (m : Memory) (ts : List ℕ) (ws : List ℕ) (n : ℕ) (o : Memory) (a 
       let w = (a.ground.titled q p.title).within in let n = p.near in omega arith
 
   -- The queue fits the list.
+  pub few_titles : n ≤ m.figures.cells
+  few_titles = pigeons m.figures.cells n (λ i. get_or ws i 0) (λ i l. title_below (get_or ws i 0) (a.titles i l)) a.apart
+
   pub tail_fits : n ≤ length ws
-  tail_fits =
-      let le = pigeons m.figures.cells n (λ i. get_or ws i 0) (λ i l. title_below (get_or ws i 0) (a.titles i l)) a.apart in
-      let r = a.room in omega arith
+  tail_fits = let f = few_titles in let r = a.room in omega arith

@@ -5,74 +5,60 @@ use Rattle.cells.specs.Meaning.{Memory, Figures}
 use Rattle.rules.specs.Model.{Model}
 use Rattle.rules.specs.Lists.{In}
 use Rattle.rules.specs.Arena.{null_desc, Arena, titles_of}
-use Rattle.heap.specs.Marks.{Marked}
 use Rattle.heap.specs.Walks.{Tiled, Tabled, Packed}
 use Rattle.heap.specs.Moves.{Ready, Relocated, Prepared, Shifting}
 use Rattle.heap.specs.Threads.{Linkable, Threading, Headed, Heading, Rethreaded}
-use Rattle.heap.specs.Regeneration.{Begun, Regenerated}
+use Rattle.heap.specs.Regeneration.{Begun, Traced, Regenerated}
 use Rattle.heap.proofs.Stages.{tiled_marked, tiled_same, to_same, prepared}
 use Rattle.heap.proofs.Chains.{rethreaded, tiled_rethreaded, threading_led}
 use Rattle.heap.proofs.Totals.{tiled, registers_ready, new_link, new_head, new_linkable, new_headed, regenerated}
 
--- Marking and layout are over: o has the marks, and the table tb has the new cells.
-pub record Traced (m : Model) (a : Arena) (m0 : Memory) (rs : List Descriptor) (bins end t : ℕ) (tb : List ℕ) (o : Memory) : Type 0 where
-  pub roots : List ℕ
-  pub first : ℕ
-  pub start : Memory
-  pub begun : Begun m a m0 rs bins end roots first start
-  pub queue : List ℕ
-  pub tail : ℕ
-  pub marked : Marked m0 (titles_of m a m0) roots first queue tail o
-  pub long : length tb ≡ length queue
-  pub tabled : Tabled o (titles_of m a m0) bins end end t tb
+start_tiled : {m : Model} {a : Arena} {m0 : Memory} {rs : List Descriptor} {bins end : ℕ} {ws : List ℕ} {n : ℕ} {o : Memory} → Begun m a m0 rs bins end ws n o →
+    Tiled m0 (titles_of m a m0) bins end
+start_tiled {m} {a} {m0} b = rw (b.bins_is, b.end_is) (tiled m a m0 b.sound b.shows)
 
-module _ {m : Model} {a : Arena} {m0 : Memory} {rs : List Descriptor} {bins end : ℕ} {ws₀ : List ℕ} {n₀ : ℕ} {o₀ : Memory} (b : Begun m a m0 rs bins end ws₀ n₀ o₀) where
-  start_tiled : Tiled m0 (titles_of m a m0) bins end
-  start_tiled = rw (b.bins_is, b.end_is) (tiled m a m0 b.sound b.shows)
+module _ {m : Model} {a : Arena} {m0 : Memory} {rs : List Descriptor} {bins end : ℕ} {ws : List ℕ} {o : Memory} (x : Traced m a m0 rs bins end ws o) where
+  pub stage_tiled : Tiled o (titles_of m a m0) bins end
+  stage_tiled = tiled_marked m0 _ x.roots x.first ws x.tail o x.marked bins end (start_tiled x.begun)
 
-  module _ {ws : List ℕ} {n : ℕ} {o : Memory} (mk : Marked m0 (titles_of m a m0) ws₀ n₀ ws n o) where
-    pub stage_tiled : Tiled o (titles_of m a m0) bins end
-    stage_tiled = tiled_marked m0 _ ws₀ n₀ ws n o mk bins end start_tiled
+  pub stage_room : o.figures.cells ≤ length ws
+  stage_room = let e = ap (λ (x : Figures). x.cells) x.marked.queue.figures in let r = x.marked.queue.room in omega arith
 
-    pub stage_room : o.figures.cells ≤ length ws
-    stage_room = let e = ap (λ (x : Figures). x.cells) mk.queue.figures in let r = mk.queue.room in omega arith
-
-    pub traced : {t : ℕ} {tb : List ℕ} → length tb ≡ length ws → Tabled o (titles_of m a m0) bins end end t tb → Traced m a m0 rs bins end t tb o
-    traced l tab = record { roots = ws₀; first = n₀; start = o₀; begun = b; queue = ws; tail = n; marked = mk; long = l; tabled = tab }
-
-module _ {m : Model} {a : Arena} {m0 : Memory} {rs : List Descriptor} {bins end t : ℕ} {tb : List ℕ} {o : Memory} (x : Traced m a m0 rs bins end t tb o) where
+-- Layout is over too: the table tb has the new cells.
+module _ {m : Model} {a : Arena} {m0 : Memory} {rs : List Descriptor} {bins end t : ℕ} {ws tb : List ℕ} {o : Memory} (x : Traced m a m0 rs bins end ws o)
+    (long : length tb ≡ length ws) (tabled : Tabled o (titles_of m a m0) bins end end t tb) where
   b : Begun m a m0 rs bins end x.roots x.first x.start
   b = x.begun
 
   long_enough : m0.figures.cells ≤ length tb
-  long_enough = let r = x.marked.queue.room in let l = x.long in omega arith
+  long_enough = let r = x.marked.queue.room in let l = long in omega arith
 
   tab' : Tabled o (titles_of m a m0) a.bins a.«next» a.«next» t tb
-  tab' = rw (b.bins_is, b.end_is) at x.tabled
+  tab' = rw (b.bins_is, b.end_is) at tabled
 
   pub stage_prepared : Prepared o (titles_of m a m0) tb
-  stage_prepared = prepared m0 _ x.roots x.first x.queue x.tail o x.marked bins end t (start_tiled b) tb long_enough x.tabled
+  stage_prepared = prepared m0 _ x.roots x.first ws x.tail o x.marked bins end t (start_tiled b) tb long_enough tabled
 
   pub stage_ready : (i : ℕ) → i < length rs → Ready o tb (get_or rs i null_desc)
-  stage_ready = registers_ready m a m0 b.sound b.shows rs b.same_length b.registers x.roots x.first b.rooted x.queue x.tail o x.marked t tb long_enough tab'
+  stage_ready = registers_ready m a m0 b.sound b.shows rs b.same_length b.registers x.roots x.first b.rooted ws x.tail o x.marked t tb long_enough tab'
 
   module _ {r : Memory} (rl : Relocated o (titles_of m a m0) tb bins end end r) where
     rl' : Relocated o (titles_of m a m0) tb a.bins a.«next» a.«next» r
     rl' = rw (b.bins_is, b.end_is) at rl
 
     pub stage_link : ℕ → Descriptor
-    stage_link = new_link m a m0 b.sound b.shows rs b.same_length b.registers x.roots x.first b.rooted x.queue x.tail o x.marked t tb long_enough tab' r rl'
+    stage_link = new_link m a m0 b.sound b.shows rs b.same_length b.registers x.roots x.first b.rooted ws x.tail o x.marked t tb long_enough tab' r rl'
 
     pub stage_head : ℕ → Descriptor
-    stage_head = new_head m a m0 b.sound b.shows rs b.same_length b.registers x.roots x.first b.rooted x.queue x.tail o x.marked t tb long_enough tab' r rl'
+    stage_head = new_head m a m0 b.sound b.shows rs b.same_length b.registers x.roots x.first b.rooted ws x.tail o x.marked t tb long_enough tab' r rl'
 
     pub stage_linkable : Linkable r (titles_of m a m0) tb stage_link
     unfolding stage_link
-    stage_linkable = new_linkable m a m0 b.sound b.shows rs b.same_length b.registers x.roots x.first b.rooted x.queue x.tail o x.marked t tb long_enough tab' r rl'
+    stage_linkable = new_linkable m a m0 b.sound b.shows rs b.same_length b.registers x.roots x.first b.rooted ws x.tail o x.marked t tb long_enough tab' r rl'
 
     pub thread_tiled : Tiled r (titles_of m a m0) bins end
     thread_tiled =
-        tiled_same o r _ bins end rl.figures (λ p h. (rw (rl.titles p h, rl.figures) refl, ap (λ (x : Descriptor). x.kind) (rl.titles p h))) (stage_tiled b x.marked)
+        tiled_same o r _ bins end rl.figures (λ p h. (rw (rl.titles p h, rl.figures) refl, ap (λ (x : Descriptor). x.kind) (rl.titles p h))) (stage_tiled x)
 
     module _ {u : Memory} (th : Threading r (titles_of m a m0) stage_link end end u) where
       pub heads_below : bins ≤ u.figures.cells
@@ -92,7 +78,7 @@ module _ {m : Model} {a : Arena} {m0 : Memory} {rs : List Descriptor} {bins end 
           let l' : i < a.bins = rw b.bins_is at l in
           threading_led r _ bins end thread_tiled stage_link end u th tb _ _ _
           (th.descriptors i (λ q k x e. let y = thread_tiled.low q k.0 in omega arith))
-          (new_headed m a m0 b.sound b.shows rs b.same_length b.registers x.roots x.first b.rooted x.queue x.tail o x.marked t tb long_enough tab' r rl' i l')
+          (new_headed m a m0 b.sound b.shows rs b.same_length b.registers x.roots x.first b.rooted ws x.tail o x.marked t tb long_enough tab' r rl' i l')
 
       module _ {v : Memory} (hd : Heading u stage_head bins v) where
         rt : Rethreaded r (titles_of m a m0) bins stage_link stage_head v
@@ -102,7 +88,7 @@ module _ {m : Model} {a : Arena} {m0 : Memory} {rs : List Descriptor} {bins end 
         pack_tiled = tiled_rethreaded r _ bins end thread_tiled stage_link stage_head u v th hd
 
         pub pack_room : v.figures.cells ≤ length tb
-        pack_room = let e = ap (λ (x : Figures). x.cells) (rt.figures ∙ rl.figures) in let s = stage_room b x.marked in let l = x.long in omega arith
+        pack_room = let e = ap (λ (x : Figures). x.cells) (rt.figures ∙ rl.figures) in let s = stage_room x in let l = long in omega arith
 
         titles_v : (q : ℕ) → In q (titles_of m a m0) → v.descriptor q ≡ o.descriptor q
         titles_v q h = rt.titles q h ∙ rl.titles q h
@@ -110,14 +96,14 @@ module _ {m : Model} {a : Arena} {m0 : Memory} {rs : List Descriptor} {bins end 
         pub pack_tabled : Tabled v (titles_of m a m0) bins end end t tb
         pack_tabled =
             record {
-              stop = x.tabled.stop;
-              goes = to_same o v _ bins (rt.figures ∙ rl.figures) titles_v end t x.tabled.goes;
-              table = λ q h l z. to_same o v _ bins (rt.figures ∙ rl.figures) titles_v q _ (x.tabled.table q h l (λ y. z (rw (titles_v q h) y)));
+              stop = tabled.stop;
+              goes = to_same o v _ bins (rt.figures ∙ rl.figures) titles_v end t tabled.goes;
+              table = λ q h l z. to_same o v _ bins (rt.figures ∙ rl.figures) titles_v q _ (tabled.table q h l (λ y. z (rw (titles_v q h) y)));
             }
 
         pub stage_last : (f : Memory) (rs' : List Descriptor) (free : ℕ) → free ≡ t → Packed v (titles_of m a m0) bins end f → Shifting o tb rs (length rs) rs' →
             Regenerated m a m0 bins free rs' tb f
         unfolding stage_link stage_head
         stage_last f rs' free e pk sf =
-            rw (b.bins_is, e) (regenerated m a m0 b.sound b.shows rs b.same_length b.registers x.roots x.first b.rooted x.queue x.tail o x.marked t tb long_enough tab' r rl' v f
+            rw (b.bins_is, e) (regenerated m a m0 b.sound b.shows rs b.same_length b.registers x.roots x.first b.rooted ws x.tail o x.marked t tb long_enough tab' r rl' v f
             (subst (λ (x : ℕ). Rethreaded r (titles_of m a m0) x stage_link stage_head v) b.bins_is rt) (rw (b.bins_is, b.end_is) at pk) rs' sf)

@@ -6,7 +6,7 @@ use Rattle.cells.specs.Meaning.{Memory, Sound}
 use Rattle.rules.specs.Model.{Text, string, Model, register, Reach, Exactly}
 use Rattle.rules.specs.Lists.{Keeps}
 use Rattle.rules.specs.Arena.{null_desc, Arena, Codes, titles_of, Shows}
-use Rattle.heap.specs.Marks.{Queue, Rooted}
+use Rattle.heap.specs.Marks.{Queue, Marked, Rooted}
 
 -- r is no refusal, and P holds of its value.
 abbrev pub Gives : {A : Type 0} → (A → Type 0) → Result A HeapFault → Type 0
@@ -23,6 +23,15 @@ pub record Begun (m : Model) (a : Arena) (m0 : Memory) (rs : List Descriptor) (b
   pub registers : (r : ℕ) → r < length m.registers → Codes m a m0 (register m r) (slice_index_or rs r null_desc)
   pub rooted : Rooted m0 (titles_of m a m0) rs ws n
   pub queue : Queue m0 (titles_of m a m0) ws n o
+
+-- Marking is over: exactly what those roots reach is queued and marked in o.
+pub record Traced (m : Model) (a : Arena) (m0 : Memory) (rs : List Descriptor) (bins end : ℕ) (ws : List ℕ) (o : Memory) : Type 0 where
+  pub roots : List ℕ
+  pub first : ℕ
+  pub start : Memory
+  pub begun : Begun m a m0 rs bins end roots first start
+  pub tail : ℕ
+  pub marked : Marked m0 (titles_of m a m0) roots first ws tail o
 
 -- The memory o shows the model, the registers rs code its registers, and the list is long enough.
 pub record Shown (m : Model) (a : Arena) (bins end : ℕ) (rs : List Descriptor) (ws : List ℕ) (o : Memory) : Type 0 where

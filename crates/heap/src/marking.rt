@@ -1,165 +1,169 @@
-// Marking: the work list is a queue of marked titles, none twice, that only grows.
-ghost use Rattle.std.specs.Prelude.{◌≡◌, ℕ, ◌<◌, List, length, Ok, slice_index_or};
+// Marking: what the registers and the strings reach gets the mark.
+ghost use Rattle.std.specs.Prelude.{◌≡◌, ℕ, ◌<◌, ◌≤◌, ◌⊎◌, List, length, Ok, MatchOption, slice_index, slice_index_or};
 ghost use Rattle.cells.specs.Meaning.{Memory};
-ghost use Rattle.rules.specs.Arena.{null_desc};
+ghost use Rattle.rules.specs.Arena.{Arena, null_desc};
 ghost use Rattle.rules.specs.Lists.{In};
+ghost use Rattle.rules.specs.Model.{Model};
 ghost use Rattle.arena.specs.Titles.{count};
 ghost use Rattle.heap.specs.Marks.{Valued, Queue, Added, Visited, Scanned, Marked, Registered, Holding};
+ghost use Rattle.heap.specs.Regeneration.{Gives, Shown, Traced};
 ghost use Rattle.heap.specs.Walks.{Tiled, Searched};
 
+use crate::blocks::{Block, Blocks};
 use crate::descriptors::{holds, is_pointer};
+use arena::extent::Extent;
 use arena::faults::{HeapFault, Rule};
-use arena::titles::{cell_of, cells_of, field_count, marked, title_of};
+use arena::titles::{cell_of, field_count, marked, title_of};
 use arena::{MARK, MOST_CELLS, STRING};
 use cells::{Descriptor, Store};
 
-// Marks a title and puts it at the end of the queue, unless it is marked.
-pub fn enqueue<S: Store>(
-    store: &mut S,
-    title: u32,
-    work: &mut [u32],
+// A queue of marked titles, none twice, that only grows: the entries of a lent list below the tail.
+#[derive(Drop)]
+struct WorkList<'w> {
+    titles: &'w mut [u32],
     tail: usize,
-) -> Result<usize, HeapFault>
-    ensures { (m : Memory) (ts : List ℕ) → Queue m ts work.old tail (S.memory store.old) → In title ts →
-        ((t : ℕ) × (result ≡ Ok t) × Added m ts work.old tail title work.new t (S.memory store.new)) }
-{
-    let t = store.descriptor(title)?;
-    if t.flags & MARK != 0 {
-        return Ok(tail);
-    }
-    if tail >= work.len() {
-        return Err(HeapFault::Unlawful(Rule::Titles, title));
-    }
-    store.set_descriptor(title, marked(t))?;
-    work[tail] = title;
-    Ok(tail + 1)
 }
 
-// Marks and queues what a value points at.
-pub fn visit<S: Store>(
-    store: &mut S,
-    d: Descriptor,
-    work: &mut [u32],
-    tail: usize,
-) -> Result<usize, HeapFault>
-    ensures { (m : Memory) (ts : List ℕ) → Queue m ts work.old tail (S.memory store.old) → Valued m ts d →
-        ((t : ℕ) × (result ≡ Ok t) × Visited m ts work.old tail d work.new t (S.memory store.new)) }
-{
-    if !is_pointer(d) {
-        return Ok(tail);
+impl WorkList<'_> {
+    // Marks a title and puts it at the end, unless it is marked.
+    fn push<S: Store>(&mut self, store: &mut S, title: u32) -> Result<(), HeapFault>
+        ensures pushed { (m : Memory) (ts : List ℕ) → Queue m ts self.old.titles.now self.old.tail (S.memory store.old) → In title ts →
+            ((result ≡ Ok tt) × Added m ts self.old.titles.now self.old.tail title self.new.titles.now self.new.tail (S.memory store.new)) }
+        ensures same_list { self.new.titles.ghost_name ≡ self.old.titles.ghost_name }
+    {
+        let t = store.descriptor(title)?;
+        if t.flags & MARK != 0 {
+            return Ok(());
+        }
+        if self.tail >= self.titles.len() {
+            return Err(HeapFault::Unlawful(Rule::Titles, title));
+        }
+        store.set_descriptor(title, marked(t))?;
+        self.titles[self.tail] = title;
+        self.tail += 1;
+        Ok(())
     }
-    let cell = cell_of(d)?;
-    let (title, _) = title_of(store, cell)?;
-    enqueue(store, title, work, tail)
-}
 
-// Marks and queues what the fields of a block point at.
-pub fn scan<S: Store>(
-    store: &mut S,
-    title: u32,
-    work: &mut [u32],
-    tail: usize,
-) -> Result<usize, HeapFault>
-    ensures { (m : Memory) (ts : List ℕ) → Queue m ts work.old tail (S.memory store.old) → In title ts →
-        ((t : ℕ) × (result ≡ Ok t) × Scanned m ts title (count (m.descriptor title)) work.old tail work.new t (S.memory store.new)) }
-{
-    let t = store.descriptor(title)?;
-    let n = field_count(t);
-    if title > MOST_CELLS || n > MOST_CELLS {
-        return Err(HeapFault::Unlawful(Rule::Titles, title));
+    // Marks and queues what a value points at.
+    fn visit<S: Store>(&mut self, store: &mut S, d: Descriptor) -> Result<(), HeapFault>
+        ensures visited { (m : Memory) (ts : List ℕ) → Queue m ts self.old.titles.now self.old.tail (S.memory store.old) → Valued m ts d →
+            ((result ≡ Ok tt) × Visited m ts self.old.titles.now self.old.tail d self.new.titles.now self.new.tail (S.memory store.new)) }
+        ensures same_list { self.new.titles.ghost_name ≡ self.old.titles.ghost_name }
+    {
+        if !is_pointer(d) {
+            return Ok(());
+        }
+        let (title, _) = title_of(store, cell_of(d)?)?;
+        self.push(store, title)
     }
-    let mut end = tail;
-    for k in 0..n {
-        let d = store.descriptor(title + 1 + k)?;
-        if is_pointer(d) {
-            end = visit(store, d, work, end)?;
+
+    // Marks and queues what the fields of a block point at.
+    fn scan<S: Store>(&mut self, store: &mut S, title: u32) -> Result<(), HeapFault>
+        ensures scanned { (m : Memory) (ts : List ℕ) → Queue m ts self.old.titles.now self.old.tail (S.memory store.old) → In title ts →
+            ((result ≡ Ok tt) × Scanned m ts title (count (m.descriptor title)) self.old.titles.now self.old.tail self.new.titles.now self.new.tail (S.memory store.new)) }
+        ensures same_list { self.new.titles.ghost_name ≡ self.old.titles.ghost_name }
+    {
+        let n = field_count(store.descriptor(title)?);
+        if n > MOST_CELLS {
+            return Err(HeapFault::Unlawful(Rule::Titles, title));
+        }
+        for cell in title + 1..title + 1 + n {
+            let d = store.descriptor(cell)?;
+            self.visit(store, d)?;
+        }
+        Ok(())
+    }
+
+    // The title at one place of the queue.
+    fn get(&self, place: usize) -> Option<u32>
+        ensures { MatchOption result (self.now.tail ≤ place ⊎ length self.now.titles.now ≤ place) (λ t. (place < self.now.tail) × (t ≡ slice_index self.now.titles.now place)) }
+    {
+        if place < self.tail {
+            self.titles.get(place).copied()
+        } else {
+            None
         }
     }
-    Ok(end)
-}
 
-// Takes each title of the queue in turn, until all that is reached is marked.
-pub fn drain<S: Store>(store: &mut S, work: &mut [u32], tail: usize) -> Result<usize, HeapFault>
-    ensures { (m : Memory) (ts : List ℕ) → Queue m ts work.old tail (S.memory store.old) →
-        ((t : ℕ) × (result ≡ Ok t) × Marked m ts work.old tail work.new t (S.memory store.new)) }
-{
-    let mut end = tail;
-    let mut head = 0;
-    while head < end {
-        if head >= work.len() {
-            return Err(HeapFault::Unlawful(Rule::Titles, 0));
+    // Takes each title in turn, until all that is reached is marked.
+    fn drain<S: Store>(&mut self, store: &mut S) -> Result<(), HeapFault>
+        ensures drained { (m : Memory) (ts : List ℕ) → Queue m ts self.old.titles.now self.old.tail (S.memory store.old) →
+            ((result ≡ Ok tt) × Marked m ts self.old.titles.now self.old.tail self.new.titles.now self.new.tail (S.memory store.new)) }
+        ensures same_list { self.new.titles.ghost_name ≡ self.old.titles.ghost_name }
+    {
+        for place in 0..self.titles.len() {
+            let Some(title) = self.get(place) else {
+                break;
+            };
+            self.scan(store, title)?;
         }
-        end = scan(store, work[head], work, end)?;
-        head += 1;
+        Ok(())
     }
-    Ok(end)
+
+    // Marks and queues what the registers point at.
+    fn add_registers<S: Store>(
+        &mut self,
+        store: &mut S,
+        registers: &[Descriptor],
+    ) -> Result<(), HeapFault>
+        ensures added { (m : Memory) (ts : List ℕ) → Queue m ts self.old.titles.now self.old.tail (S.memory store.old) →
+            ((i : ℕ) → i < length registers.now → Valued m ts (slice_index_or registers.now i null_desc)) →
+            ((result ≡ Ok tt) × Registered m ts registers.now (length registers.now) self.old.titles.now self.old.tail self.new.titles.now self.new.tail (S.memory store.new)) }
+        ensures same_list { self.new.titles.ghost_name ≡ self.old.titles.ghost_name }
+    {
+        for d in registers {
+            self.visit(store, *d)?;
+        }
+        Ok(())
+    }
+
+    // Marks and queues a string whose value or label is not null.
+    fn add_string<S: Store>(&mut self, store: &mut S, block: &Block) -> Result<(), HeapFault>
+        ensures added { (m : Memory) (ts : List ℕ) → Queue m ts self.old.titles.now self.old.tail (S.memory store.old) → In block.now.at ts →
+            block.now.title ≡ (S.memory store.old).descriptor block.now.at →
+            ((result ≡ Ok tt) × Holding m block.now.at self.old.titles.now self.old.tail ts self.new.titles.now self.new.tail (S.memory store.new)) }
+        ensures same_list { self.new.titles.ghost_name ≡ self.old.titles.ghost_name }
+    {
+        if block.title.flags & STRING == 0 {
+            return Ok(());
+        }
+        let value = store.descriptor(block.at + 1)?;
+        let label = store.descriptor(block.at + 2)?;
+        if !holds(value, label) {
+            return Ok(());
+        }
+        self.push(store, block.at)
+    }
+
+    // Marks and queues every string whose value or label is not null.
+    fn add_strings<S: Store>(&mut self, store: &mut S, extent: Extent) -> Result<(), HeapFault>
+        ensures added { (m : Memory) (ts : List ℕ) → Tiled m ts extent.bins extent.next → Queue m ts self.old.titles.now self.old.tail (S.memory store.old) →
+            ((result ≡ Ok tt) × Searched m ts extent.next extent.next self.old.titles.now self.old.tail self.new.titles.now self.new.tail (S.memory store.new)) }
+        ensures same_list { self.new.titles.ghost_name ≡ self.old.titles.ghost_name }
+    {
+        let mut blocks = Blocks::of(extent)?;
+        while let Some(block) = blocks.step(store)? {
+            self.add_string(store, &block)?;
+        }
+        Ok(())
+    }
 }
 
-// Marks and queues what the registers point at.
-pub fn mark_registers<S: Store>(
+// Marks all that the registers and the strings that hold something reach; the list has the marked titles then.
+pub fn mark<S: Store>(
     store: &mut S,
     registers: &[Descriptor],
+    extent: Extent,
     work: &mut [u32],
-    tail: usize,
-) -> Result<usize, HeapFault>
-    ensures { (m : Memory) (ts : List ℕ) → Queue m ts work.old tail (S.memory store.old) →
-        ((i : ℕ) → i < length registers.now → Valued m ts (slice_index_or registers.now i null_desc)) →
-        ((t : ℕ) × (result ≡ Ok t) × Registered m ts registers.now (length registers.now) work.old tail work.new t (S.memory store.new)) }
+) -> Result<(), HeapFault>
+    ensures { (m : Model) (a : Arena) → Shown m a extent.bins extent.next registers.now work.old (S.memory store.old) →
+        ((result ≡ Ok tt) × Traced m a (S.memory store.old) registers.now extent.bins extent.next work.new (S.memory store.new)) }
 {
-    let mut end = tail;
-    for d in registers {
-        end = visit(store, *d, work, end)?;
-    }
-    Ok(end)
-}
-
-// Marks and queues a string whose value or label is not null.
-pub fn mark_string<S: Store>(
-    store: &mut S,
-    at: u32,
-    t: Descriptor,
-    work: &mut [u32],
-    tail: usize,
-) -> Result<usize, HeapFault>
-    ensures { (m : Memory) (ts : List ℕ) → Queue m ts work.old tail (S.memory store.old) → In at ts → t ≡ (S.memory store.old).descriptor at →
-        ((e : ℕ) × (result ≡ Ok e) × Holding m at work.old tail ts work.new e (S.memory store.new)) }
-{
-    if t.flags & STRING == 0 {
-        return Ok(tail);
-    }
-    if at > MOST_CELLS {
-        return Err(HeapFault::Unlawful(Rule::Titles, at));
-    }
-    let value = store.descriptor(at + 1)?;
-    let label = store.descriptor(at + 2)?;
-    if !holds(value, label) {
-        return Ok(tail);
-    }
-    enqueue(store, at, work, tail)
-}
-
-// Marks and queues every string whose value or label is not null.
-pub fn mark_strings<S: Store>(
-    store: &mut S,
-    bins: u32,
-    next: u32,
-    work: &mut [u32],
-    tail: usize,
-) -> Result<usize, HeapFault>
-    ensures { (m : Memory) (ts : List ℕ) → Tiled m ts bins next → Queue m ts work.old tail (S.memory store.old) →
-        ((e : ℕ) × (result ≡ Ok e) × Searched m ts next next work.old tail work.new e (S.memory store.new)) }
-{
-    let places = store.places();
-    if next > MOST_CELLS {
-        return Err(HeapFault::Unlawful(Rule::Next, 0));
-    }
-    let mut at = bins;
-    let mut end = tail;
-    while at < next {
-        let t = store.descriptor(at)?;
-        let n = cells_of(t, places)?;
-        end = mark_string(store, at, t, work, end)?;
-        at += n;
-    }
-    Ok(end)
+    let mut queue = WorkList {
+        titles: work,
+        tail: 0,
+    };
+    queue.add_registers(store, registers)?;
+    queue.add_strings(store, extent)?;
+    queue.drain(store)
 }

@@ -3,27 +3,27 @@ use lib.Bits.{bit_and}
 use Rattle.heap.specs.Marks.{plain, pointer}
 use Rattle.heap.proofs.Outcomes.{ok_same, ok_not_err}
 use Rattle.heap.proofs.Queues.{visited_one, back_now, aim_below}
-use Rattle.heap.proofs.marking.visit.Goals as goal
+use Rattle.heap.proofs.marking.WorkList.visit.Goals as goal
 
 no_flag : (f : ℕ) → f ≡ 0 → bit_and f 16 ≢ 0 → ⊥
 no_flag f e n = n (rw e refl)
 
-pub returns-in_err-title : goal.returns-in_err-title
-returns-in_err-title g c m ts a v =
+pub returns-in_err-title-clause-visited : goal.returns-in_err-title-clause-visited
+returns-in_err-title-clause-visited g c m ts a v =
     elim v [
       | plain e ↦ absurd (no_flag _ e (c.is_pointer.ensures.yes c.if-not-is_pointer.false))
       | pointer q p ↦
-          let ce = ok_same _ _ (c.in_ok-cell.ensures (q + p.distance) p.value) in
+          let ce = ok_same _ _ (c.in_ok-cell_of.ensures (q + p.distance) p.value) in
           ok_not_err (c.title_of.ensures q p.distance ce (rw ce (aim_below m ts _ _ _ a _ q p)) (back_now m ts _ _ _ a _ q p)) c.in_err-title.was
     ]
 
-pub returns : goal.returns
-returns g c m ts a v =
+pub returns-clause-visited : goal.returns-clause-visited
+returns-clause-visited g c m ts a v =
     elim v [
       | plain e ↦ absurd (no_flag _ e (c.is_pointer.ensures.yes c.if-not-is_pointer.false))
       | pointer q p ↦
-          let ce = ok_same _ _ (c.in_ok-cell.ensures (q + p.distance) p.value) in
+          let ce = ok_same _ _ (c.in_ok-cell_of.ensures (q + p.distance) p.value) in
           let te = ap (λ (x : ℕ × ℕ). x.0) (ok_same _ _ (c.in_ok-title.ensures q p.distance ce (rw ce (aim_below m ts _ _ _ a _ q p)) (back_now m ts _ _ _ a _ q p))) in
-          let n = c.enqueue.ensures m ts a (rw te p.title) in
-          (n.0, n.1, visited_one m ts _ _ _ a _ q _ _ _ _ p te n.2)
+          let n = c.push.ensures.pushed m ts a (rw te p.title) in
+          (n.0, visited_one m ts _ _ _ a _ q _ _ _ _ p te n.1)
     ]

@@ -4,18 +4,18 @@ use Rattle.cells.specs.declared.Descriptor.{Descriptor}
 use Rattle.cells.proofs.Acts.{descriptor_written}
 use Rattle.arena.specs.Titles.{with_mark}
 use Rattle.heap.proofs.Queues.{added_new, room_left, unmarked, below_now, fits_mark}
-use Rattle.heap.proofs.marking.enqueue.Goals as goal
+use Rattle.heap.proofs.marking.WorkList.push.Goals as goal
 
-pub returns-then-tail-work : goal.returns-then-tail-work
-returns-then-tail-work g c m ts a h =
+pub returns-then-self-clause-pushed : goal.returns-then-self-clause-pushed
+returns-then-self-clause-pushed g c m ts a h =
     let read = c.in_ok-t.ensures.1 in
     let e : c.in_ok-t.t ≡ (g.S.Store.memory c.args.store.now).descriptor c.args.title = cc in
     let z = subst (λ (x : Descriptor). bit_and x.flags 8 ≡ 0) e c.if-t-ne0.false in
     let l = room_left m ts _ _ _ a c.args.title h (unmarked m ts _ _ _ a c.args.title h z).0 in
     absurd (omega arith)
 
-pub returns : goal.returns
-returns g c m ts a h =
+pub returns-clause-pushed : goal.returns-clause-pushed
+returns-clause-pushed g c m ts a h =
     let b = below_now m ts _ _ _ a c.args.title h in
     let read = c.in_ok-t.ensures.1 in
     let e : c.in_ok-t.t ≡ (g.S.Store.memory c.args.store.now).descriptor c.args.title = cc in
@@ -26,4 +26,4 @@ returns g c m ts a h =
     let fl : c.marked.result.flags ≤ 31 = rw c.marked.ensures f in
     let ki : c.marked.result.kind ≤ (g.S.Store.memory c.args.store.now).figures.largest = rw (c.marked.ensures, e) s in
     let w = (descriptor_written _ _ _ _ c.set_descriptor.result c.set_descriptor.ensures.answer b (fl, ki)).1 in
-    (_, refl, added_new m ts _ _ _ a c.args.title _ h z c.if-tail-work.false (rw k at w))
+    (refl, added_new m ts _ _ _ a c.args.title _ h z c.if-self.false (rw k at w))

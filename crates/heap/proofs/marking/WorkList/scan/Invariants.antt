@@ -1,0 +1,11 @@
+use Rattle.std.proofs.Common.{◌≡◌, ℕ, ◌+◌, ◌-◌, List}
+use Rattle.cells.specs.Meaning.{Memory}
+use Rattle.rules.specs.Lists.{In}
+use Rattle.heap.specs.Marks.{Queue, Scanned}
+use Rattle.heap.proofs.marking.WorkList.scan.Given as goal
+
+abbrev pub invariant-loop-cell : goal.invariant-loop-cell
+invariant-loop-cell g l =
+    (l.self.titles.ghost_name ≡ l.initial.self.titles.ghost_name) ×
+    ((m : Memory) (ts : List ℕ) → Queue m ts l.initial.self.titles.now l.initial.self.tail (g.S.Store.memory l.initial.store) → In l.title ts →
+    Scanned m ts l.title (l.cell - (l.title + 1)) l.initial.self.titles.now l.initial.self.tail l.self.titles.now l.self.tail (g.S.Store.memory l.store))
