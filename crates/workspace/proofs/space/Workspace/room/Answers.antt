@@ -1,5 +1,5 @@
 use Rattle.std.proofs.Common.{sym, refl, subst}
-use Rattle.workspace.specs.declared.space.State.TheVariants.{Opened}
+use Rattle.workspace.specs.State.{Opened}
 use Rattle.workspace.specs.Shown.{View, view}
 use Rattle.workspace.specs.Rooms.{RoomOf}
 use Rattle.workspace.proofs.Steps.{passed}
@@ -10,16 +10,16 @@ pub returns-in_err-answer : goal.returns-in_err-answer
 returns-in_err-answer g c m a s long =
     let v = view g.S.Store.memory c.args.self.now in
     let l = c.make_room-answer.new in
-    let shown = down m a v c.in-Opened.bins c.in-Opened.next c.args.work.now s c.in-Opened.is long in
-    let w : View = record { memory = g.S.Store.memory l.store; registers = l.registers; state = Opened c.in-Opened.bins l.next } in
+    let shown = down m a v c.in-Some.extent.bins c.in-Some.extent.next c.args.work.now s c.in-Some.is long in
+    let w : View = record { memory = g.S.Store.memory l.store; registers = l.registers; state = Opened c.in-Some.extent.bins l.next } in
     subst (λ r. RoomOf m a v c.args.need w r) (sym (passed c.from_residual.result _ _ c.from_residual.ensures.1 refl))
-    (room_err m a v c.in-Opened.bins c.in-Opened.next c.args.need s c.in-Opened.is l.next l.registers l.work (g.S.Store.memory l.store) c.in_err-answer.field-0.0
+    (room_err m a v c.in-Some.extent.bins c.in-Some.extent.next c.args.need s c.in-Some.is l.next l.registers l.work (g.S.Store.memory l.store) c.in_err-answer.field-0.0
     (c.in_err-answer.ensures.answer m a shown) (c.in_err-answer.ensures.full m a shown))
 
 pub returns : goal.returns
 returns g c m a s long =
     let v = view g.S.Store.memory c.args.self.now in
     let l = c.make_room-answer.new in
-    let shown = down m a v c.in-Opened.bins c.in-Opened.next c.args.work.now s c.in-Opened.is long in
-    room_ok m a v c.in-Opened.bins c.in-Opened.next c.args.need s c.in-Opened.is l.next l.registers l.work (g.S.Store.memory l.store)
+    let shown = down m a v c.in-Some.extent.bins c.in-Some.extent.next c.args.work.now s c.in-Some.is long in
+    room_ok m a v c.in-Some.extent.bins c.in-Some.extent.next c.args.need s c.in-Some.is l.next l.registers l.work (g.S.Store.memory l.store)
     (c.in_ok-answer.ensures.answer m a shown) (c.in_ok-answer.ensures.full m a shown)
