@@ -1,5 +1,5 @@
 -- The walk along a chain to the next marked string, and the new heads and links.
-use Rattle.std.proofs.Common.{◌≡◌, ℕ, ◌+◌, ◌-◌, ◌<◌, ◌≤◌, Bool, true, false, cond, eqb, ◌≢◌, ◌⊎◌, List, length, get_or, ℤ, pos, sym, refl, ap, ◌∙◌, subst, inl, inr, ⊎_elim, arith, eqb-true}
+use Rattle.std.proofs.Common.{◌≡◌, ℕ, ◌+◌, ◌<◌, ◌≤◌, Bool, true, false, cond, eqb, ◌≢◌, ◌⊎◌, List, length, get_or, ℤ, pos, sym, refl, ap, ◌∙◌, subst, inl, inr, ⊎_elim, arith, eqb-true}
 use lib.Bits.{bit_and}
 use Rattle.cells.specs.declared.Descriptor.{Descriptor}
 use Rattle.cells.specs.Meaning.{Memory, Figures, WroteDescriptor, FitDescriptor}
@@ -9,10 +9,13 @@ use Rattle.rules.specs.Arena.{desc}
 use Rattle.rules.proofs.Coded.{pos_inj}
 use Rattle.arena.specs.Titles.{count, cells_of}
 use Rattle.heap.specs.Marks.{IsBare}
+use Rattle.heap.specs.declared.blocks.Block.{Block}
+use Rattle.heap.specs.declared.blocks.Blocks.{Blocks}
 use Rattle.heap.specs.Walks.{length_at, Tiled}
 use Rattle.heap.specs.Threads.{link_cell, Joins, Leads, to_end, to_kept, past, Led, Leading, MarkedString, Linkable, Threading, Headed, Heading, Rethreaded}
 use Rattle.heap.proofs.Cells.{same, apart, compare_cells}
-use Rattle.heap.proofs.Paths.{less, equal, more, order_of, stop_title, below_step, positive}
+use Rattle.heap.proofs.Paths.{less, equal, more, order_of, lower, next_stop, positive}
+use Rattle.heap.proofs.Took.{Took}
 use Rattle.heap.proofs.Values.{count_below}
 
 clash : {A : Type 0} (f : ℕ) → f ≡ 16 → bit_and f 16 ≡ 0 → A
@@ -22,8 +25,8 @@ clear : {A : Type 0} (f : ℕ) → f ≡ 0 → bit_and f 16 ≢ 0 → A
 clear f e z = absurd (z (rw e refl))
 
 module _ (o : Memory) (ts ws : List ℕ) where
-  pub leading_none : (d d' : Descriptor) (n : ℕ) → n ≡ o.figures.cells → Led o ts ws d d' → Leading o ts ws d.kind d' d n
-  leading_none d d' n e s = record { turns = s.turns; few = rw e s.few; leads = s.leads }
+  pub leading_none : (d d' : Descriptor) (n : ℕ) → o.figures.cells ≤ n → Led o ts ws d d' → Leading o ts ws d.kind d' d n
+  leading_none d d' n l s = record { turns = s.turns; few = let f = s.few in omega arith; leads = s.leads }
 
   module _ (k : ℕ) (d' d : Descriptor) (left : ℕ) (s : Leading o ts ws k d' d left) where
     -- The chain ends,
@@ -59,14 +62,14 @@ module _ (o : Memory) (ts ws : List ℕ) where
 
     -- or one that is not marked.
     pub leading_more : (p : ℕ) (t d'' : Descriptor) → bit_and d.flags 16 ≢ 0 → d.value ≡ pos p → t ≡ o.descriptor p → bit_and t.flags 8 ≡ 0 → d'' ≡ o.descriptor (link_cell p) →
-        (0 < left) × Leading o ts ws k d' d'' (left - 1)
+        (0 < left) × ((n : ℕ) → left ≤ n + 1 → Leading o ts ws k d' d'' n)
     leading_more p t d'' z v read m link = by s.turns d s.few s.leads z v
       where
-        by : (n : ℕ) (x : Descriptor) → n ≤ left → Leads o ts ws k d' n x → bit_and x.flags 16 ≢ 0 → x.value ≡ pos p → (0 < left) × Leading o ts ws k d' d'' (left - 1)
+        by : (n : ℕ) (x : Descriptor) → n ≤ left → Leads o ts ws k d' n x → bit_and x.flags 16 ≢ 0 → x.value ≡ pos p → (0 < left) × ((n : ℕ) → left ≤ n + 1 → Leading o ts ws k d' d'' n)
         by n x w (to_end f e) z v = clear _ f z
         by n x w (to_kept q j y l h e) z v = absurd (y (rw (joins_one x q p j v) (rw read at m)))
         by n x w (past i q l j y r) z v =
-            (omega arith, record { turns = i; few = omega arith; leads = subst (λ (e : Descriptor). Leads o ts ws k d' i e) (ap (λ (c : ℕ). o.descriptor (link_cell c)) (joins_one x q p j v) ∙ sym link) r })
+            (omega arith, λ m few. record { turns = i; few = omega arith; leads = subst (λ (e : Descriptor). Leads o ts ws k d' i e) (ap (λ (c : ℕ). o.descriptor (link_cell c)) (joins_one x q p j v) ∙ sym link) r })
 
 -- A way depends on titles and on the links of strings that are not marked.
 pub leads_same : (o r : Memory) (ts ws : List ℕ) (k : ℕ) (d' : Descriptor) → r.figures ≡ o.figures → ((q : ℕ) → In q ts → (r.descriptor q).flags ≡ (o.descriptor q).flags) →
@@ -145,59 +148,53 @@ module _ (o : Memory) (ts : List ℕ) (bins end : ℕ) (a : Tiled o ts bins end)
       threading_led ws d e d' i w =
           led_same o r ts ws d e d' s.figures (λ q h. ap (λ (x : Descriptor). x.flags) (threading_titles q h)) (λ q h z l. threading_links q h z) i w
 
-      pub threading_below : p < end → p < r.figures.cells
-      threading_below l = let i = ap (λ (x : Figures). x.cells) s.figures in let w = a.within in omega arith
+    module _ (w w' : Blocks) (b : Block) (r : Memory) (t : Took o ts w b r w') (s : Threading o ts link end w.at r) where
+      read : b.title ≡ o.descriptor w.at
+      read = t.title ∙ threading_titles w.at r s w.at t.here
 
-      pub threading_all : end ≤ p → Threading o ts link end end r
-      threading_all l = ⊎_elim (λ h. absurd (let x = a.high p h in let y = positive o ts bins end a p in omega arith)) (λ e. rw e at s) s.stop
+      pub threading_skip : (bit_and b.title.flags 8 ≡ 0) ⊎ (bit_and b.title.flags 4 ≡ 0) → Threading o ts link end w'.at r
+      threading_skip un =
+          let i = t.onward in
+          record {
+            stop = next_stop o ts bins end a w w' b r t;
+            figures = s.figures;
+            done = λ q k x. s.done q k (old q k x);
+            descriptors = λ c ne. s.descriptors c (λ q k x. ne q k (omega arith));
+            characters = λ c j ne. s.characters c j (λ q k x. ne q k (omega arith));
+          }
+        where
+          old : (q : ℕ) → MarkedString o ts q → q < w'.at → q < w.at
+          old q k x = lower o ts bins end a w w' b r t q k.0 x (λ z. ⊎_elim (λ y. k.1 (rw (z, ← read) y)) (λ y. k.2 (rw (z, ← read) y)) un)
 
-      module _ (l : p < end) (d : Descriptor) (read : d ≡ o.descriptor p) (n : ℕ) (e : n ≡ length_at o p) where
-        at : In p ts
-        at = stop_title o ts bins end a p s.stop l
+      module _ (m : bit_and b.title.flags 8 ≢ 0) (f : bit_and b.title.flags 4 ≢ 0) where
+        keeps_here : MarkedString o ts w.at
+        keeps_here = (t.here, (λ z. m (rw read z)), (λ z. f (rw read z)))
 
-        lower : (q : ℕ) → In q ts → q < p + n → q ≢ p → q < p
-        lower q h k ne = below_step o ts bins end a p q at h (rw (← e) k) ne
+        pub link_below : link_cell b.at < r.figures.cells
+        link_below =
+            let i = ap (λ (x : Figures). x.cells) s.figures in let n = a.within in let x = a.high w.at t.here in let e = t.at in
+            let y = string_long o.figures.places (o.descriptor w.at) keeps_here.2 in omega arith
 
-        keeps_here : bit_and d.flags 8 ≢ 0 → bit_and d.flags 4 ≢ 0 → MarkedString o ts p
-        keeps_here m t = (at, (λ z. m (rw read z)), (λ z. t (rw read z)))
+        pub link_led : (ws : List ℕ) → Linkable o ts ws link → Led r ts ws (r.descriptor (link_cell b.at)) (link b.at)
+        link_led ws lk =
+            rw t.at (threading_led w.at r s ws _ _ _ (s.descriptors (link_cell w.at) (λ x k y z. let u : x ≡ w.at = omega arith in omega arith)) (lk w.at keeps_here))
 
-        pub link_below : bit_and d.flags 4 ≢ 0 → link_cell p < r.figures.cells
-        link_below t =
-            let i = ap (λ (x : Figures). x.cells) s.figures in let w = a.within in let x = a.high p at in
-            let y = string_long o.figures.places (o.descriptor p) (λ z. t (rw read z)) in omega arith
-
-        pub link_led : (ws : List ℕ) → Linkable o ts ws link → bit_and d.flags 8 ≢ 0 → bit_and d.flags 4 ≢ 0 → Led r ts ws (r.descriptor (link_cell p)) (link p)
-        link_led ws lk m t =
-            threading_led ws _ _ _ (s.descriptors (link_cell p) (λ x k y z. let u : x ≡ p = omega arith in omega arith)) (lk p (keeps_here m t))
-
-        pub threading_skip : (r' : Memory) → ((bit_and d.flags 8 ≡ 0) ⊎ (bit_and d.flags 4 ≡ 0)) → r' ≡ r → Threading o ts link end (p + n) r'
-        threading_skip r' un i =
-            rw i (record {
-              stop = rw e (a.step p at);
-              figures = s.figures;
-              done = λ q k x. s.done q k (old q k x);
-              descriptors = λ c ne. s.descriptors c (λ q k x. ne q k (omega arith));
-              characters = λ c j ne. s.characters c j (λ q k x. ne q k (omega arith));
-            })
-          where
-            old : (q : ℕ) → MarkedString o ts q → q < p + n → q < p
-            old q k x = lower q k.0 x (λ z. ⊎_elim (λ y. k.1 (rw (z, ← read) y)) (λ y. k.2 (rw (z, ← read) y)) un)
-
-        pub threading_keep : (r' r'' : Memory) → bit_and d.flags 8 ≢ 0 → bit_and d.flags 4 ≢ 0 → WroteDescriptor r (link_cell p) (link p) r' → r'' ≡ r' → Threading o ts link end (p + n) r''
-        threading_keep r' r'' m t w i =
-            rw i (record {
-              stop = rw e (a.step p at);
-              figures = w.figures ∙ s.figures;
-              done = λ q k x. elim (compare_cells q p) [
-                | same z ↦ rw z w.here
-                | apart z ↦ w.descriptors (link_cell q) (omega arith) ∙ s.done q k (lower q k.0 x z)
+        pub threading_keep : (r' : Memory) → WroteDescriptor r (link_cell b.at) (link b.at) r' → Threading o ts link end w'.at r'
+        threading_keep r' d' =
+            let d = rw t.at at d' in let i = t.onward in
+            record {
+              stop = next_stop o ts bins end a w w' b r t;
+              figures = d.figures ∙ s.figures;
+              done = λ q k x. elim (compare_cells q w.at) [
+                | same z ↦ rw z d.here
+                | apart z ↦ d.descriptors (link_cell q) (omega arith) ∙ s.done q k (lower o ts bins end a w w' b r t q k.0 x z)
               ];
-              descriptors = λ c ne. w.descriptors c (away c ne) ∙ s.descriptors c (λ q k x. ne q k (omega arith));
-              characters = λ c j ne. w.characters c j (away c ne) ∙ s.characters c j (λ q k x. ne q k (omega arith));
-            })
+              descriptors = λ c ne. d.descriptors c (away c ne) ∙ s.descriptors c (λ q k x. ne q k (omega arith));
+              characters = λ c j ne. d.characters c j (away c ne) ∙ s.characters c j (λ q k x. ne q k (omega arith));
+            }
           where
-            away : (c : ℕ) → ((q : ℕ) → MarkedString o ts q → q < p + n → link_cell q ≢ c) → c ≢ link_cell p
-            away c ne z = ne p (keeps_here m t) (let y = positive o ts bins end a p in omega arith) (sym z)
+            away : (c : ℕ) → ((q : ℕ) → MarkedString o ts q → q < w'.at → link_cell q ≢ c) → c ≢ link_cell w.at
+            away c ne z = ne w.at keeps_here (let y = positive o ts bins end a w.at in let i = t.onward in omega arith) (sym z)
 
 module _ (o : Memory) (ts : List ℕ) (bins : ℕ) (low : (q : ℕ) → In q ts → bins ≤ q) (head : ℕ → Descriptor) where
   pub heading_none : Heading o head 0 o

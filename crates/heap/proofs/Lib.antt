@@ -5,6 +5,7 @@ pub mod Queues
 pub mod Scans
 pub mod Lifts
 pub mod Orders
+pub mod Took
 pub mod Paths
 pub mod Ends
 pub mod Values

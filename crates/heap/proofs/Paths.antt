@@ -1,5 +1,5 @@
 -- The walk over the blocks and the new cells of the marked ones.
-use Rattle.std.proofs.Common.{◌≡◌, ℕ, ◌+◌, ◌<◌, ◌≤◌, Bool, true, false, cond, eqb, ◌≢◌, ◌⊎◌, List, length, set, sym, refl, ap, ◌∙◌, inl, inr, ⊎_elim, arith, get_or-set_other, get_or-set_same}
+use Rattle.std.proofs.Common.{◌≡◌, ℕ, ◌+◌, ◌<◌, ◌≤◌, Bool, true, false, cond, eqb, ◌≢◌, ◌⊎◌, List, length, get_or, set, sym, refl, ap, ◌∙◌, inl, inr, ⊎_elim, arith, get_or-set_other, get_or-set_same}
 use native.Mathlib.Decide.{dec_lt}
 use lib.Bits.{bit_and}
 use Rattle.cells.specs.declared.Descriptor.{Descriptor}
@@ -8,8 +8,11 @@ use Rattle.rules.specs.Model.{string_cells}
 use Rattle.rules.specs.Lists.{In}
 use Rattle.heap.specs.Marks.{IsMarked, IsBare}
 use Rattle.arena.specs.Titles.{cells_of, retitled}
+use Rattle.heap.specs.declared.blocks.Block.{Block}
+use Rattle.heap.specs.declared.blocks.Blocks.{Blocks}
 use Rattle.heap.specs.Walks.{Slid, length_at, Tiled, To, begin, keep, skip, Tabled, Brought, Packed, Moving}
 use Rattle.heap.proofs.Cells.{same, apart, compare_cells}
+use Rattle.heap.proofs.Took.{Took}
 
 pub data Order (a b : ℕ) : Type 0 where
   less : a < b → Order a b
@@ -87,36 +90,39 @@ module _ (o : Memory) (ts : List ℕ) (bins end : ℕ) (a : Tiled o ts bins end)
   below_step p q hp hq l ne =
       elim (order_of q p) [ less k ↦ k | equal k ↦ absurd (ne k) | more k ↦ absurd (let g = a.gap p q hp hq k in omega arith) ]
 
-  pub stop_title : (p : ℕ) → (In p ts ⊎ (p ≡ end)) → p < end → In p ts
-  stop_title p s l = ⊎_elim (λ h. h) (λ e. absurd (omega arith)) s
+  module _ (w w' : Blocks) (b : Block) (r : Memory) (t : Took o ts w b r w') where
+    -- No other title stands below the next stop of the walk.
+    pub lower : (q : ℕ) → In q ts → q < w'.at → q ≢ w.at → q < w.at
+    lower q h l ne = below_step w.at q t.here h (rw t.onward at l) ne
+
+    pub next_stop : In w'.at ts ⊎ (w'.at ≡ end)
+    next_stop = rw t.onward (a.step w.at t.here)
+
+    pub table_long : (ws : List ℕ) → o.figures.cells ≤ length ws → b.at < length ws
+    table_long ws l = let h = a.high w.at t.here in let n = a.within in let y = positive w.at in let e = t.at in omega arith
 
   pub tabled_none : (ws : List ℕ) → Tabled o ts bins end bins bins ws
   tabled_none ws = record { stop = a.start; goes = begin refl refl; table = λ q h l. absurd (let x = a.low q h in omega arith) }
 
-  pub tabled_keep : (p t n : ℕ) (ws : List ℕ) → Tabled o ts bins end p t ws → p < end → p < length ws → n ≡ len p → IsMarked o p →
-      Tabled o ts bins end (p + n) (t + n) (set ws p t)
-  tabled_keep p t n ws s l r e m =
-      let h = stop_title p s.stop l in
-      record {
-        stop = rw e (a.step p h);
-        goes = keep p t s.goes h m (ap (λ x. p + x) e) (ap (λ x. t + x) e);
-        table = λ q hq k mq. elim (compare_cells q p) [
-          | same z ↦ rw (z, get_or-set_same ws p t 0 r) s.goes
-          | apart z ↦ rw (get_or-set_other ws p q t 0 z) (s.table q hq (below_step p q h hq (rw (← e) k) z) mq)
-        ];
-      }
+  module _ (w w' : Blocks) (b : Block) (t : Took o ts w b o w') (u : ℕ) (ws : List ℕ) (s : Tabled o ts bins end w.at u ws) where
+    pub tabled_keep : b.at < length ws → bit_and b.title.flags 8 ≢ 0 → Tabled o ts bins end w'.at (u + b.cells) (set ws b.at u)
+    tabled_keep l m =
+        record {
+          stop = next_stop w w' b o t;
+          goes = keep w.at u s.goes t.here (λ z. m (rw t.title z)) t.onward (ap (λ x. u + x) t.cells);
+          table = λ q hq k mq. rw t.at (elim (compare_cells q w.at) [
+            | same z ↦ rw (z, get_or-set_same ws w.at u 0 (rw t.at at l)) s.goes
+            | apart z ↦ rw (get_or-set_other ws w.at q u 0 z) (s.table q hq (lower w w' b o t q hq k z) mq)
+          ]);
+        }
 
-  pub tabled_skip : (p t n : ℕ) (ws : List ℕ) → Tabled o ts bins end p t ws → p < end → n ≡ len p → IsBare o p → Tabled o ts bins end (p + n) t ws
-  tabled_skip p t n ws s l e m =
-      let h = stop_title p s.stop l in
-      record {
-        stop = rw e (a.step p h);
-        goes = skip p s.goes h m (ap (λ x. p + x) e);
-        table = λ q hq k mq. elim (compare_cells q p) [
-          | same z ↦ absurd (mq (rw z m))
-          | apart z ↦ s.table q hq (below_step p q h hq (rw (← e) k) z) mq
-        ];
-      }
+    pub tabled_skip : bit_and b.title.flags 8 ≡ 0 → Tabled o ts bins end w'.at u ws
+    tabled_skip m =
+        record {
+          stop = next_stop w w' b o t;
+          goes = skip w.at s.goes t.here (rw t.title at m) t.onward;
+          table = λ q hq k mq. s.table q hq (lower w w' b o t q hq k (λ z. mq (rw (z, ← t.title) m))) mq;
+        }
 
   pub packed_none : Packed o ts bins bins o
   packed_none =
@@ -174,49 +180,35 @@ module _ (o : Memory) (ts : List ℕ) (bins end : ℕ) (a : Tiled o ts bins end)
       before : (q u : ℕ) → In q ts → q < p + n → IsMarked o q → To o ts bins q u → q ≢ p → u + len q ≤ t
       before q u hq l mq gq z = to_above q u p t hq mq gq (below_step p q h hq (rw (← e) l) z) go
 
-  -- What the code has read, in place of the memory's own terms.
-  module _ (p : ℕ) (d : Descriptor) (read : d ≡ o.descriptor p) where
-    pub kind_some : In p ts → 1 ≤ d.kind
-    kind_some h = rw read (a.some p h)
-
-    pub kind_few : In p ts → d.kind ≤ 65535
-    kind_few h = rw read (a.few p h)
-
-    pub length_is : (c n : ℕ) → c ≡ o.figures.places → n ≡ cells_of c d → n ≡ len p
-    length_is c n e k = k ∙ ap (λ x. cells_of x d) e ∙ ap (cells_of o.figures.places) read
-
-    pub tabled_keeps : (t n t' : ℕ) (ws ws' : List ℕ) → Tabled o ts bins end p t ws → p < end → p < length ws → n ≡ len p → bit_and d.flags 8 ≢ 0 →
-        t' ≡ t + n → ws' ≡ set ws p t → Tabled o ts bins end (p + n) t' ws'
-    tabled_keeps t n t' ws ws' s l r e m x y = rw (x, y) (tabled_keep p t n ws s l r e (λ z. m (rw read z)))
-
-    pub tabled_skips : (t n t' : ℕ) (ws ws' : List ℕ) → Tabled o ts bins end p t ws → p < end → n ≡ len p → bit_and d.flags 8 ≡ 0 →
-        t' ≡ t → ws' ≡ ws → Tabled o ts bins end (p + n) t' ws'
-    tabled_skips t n t' ws ws' s l e m x y = rw (x, y) (tabled_skip p t n ws s l e (rw read at m))
-
   pub moving_none : Moving o ts bins end bins o
   moving_none = record { stop = a.start; packed = packed_none }
 
-  pub read_moving : (p : ℕ) (f : Memory) (d : Descriptor) → Moving o ts bins end p f → d ≡ f.descriptor p → d ≡ o.descriptor p
-  read_moving p f d s e = e ∙ s.packed.rest p (inr (omega arith))
+  pub moving_title : (p : ℕ) (f : Memory) → Moving o ts bins end p f → In p ts → f.descriptor p ≡ o.descriptor p
+  moving_title p f s h = s.packed.rest p (inr (omega arith))
 
-  pub moving_fits : (p n : ℕ) (f : Memory) → Moving o ts bins end p f → In p ts → n ≡ len p → p + n ≤ f.figures.cells
-  moving_fits p n f s h e =
-      let i = ap (λ (x : Figures). x.cells) s.packed.figures in let w = a.within in let x = a.high p h in omega arith
+  module _ (w w' : Blocks) (b : Block) (f : Memory) (t : Took o ts w b f w') (s : Moving o ts bins end w.at f) where
+    title_is : b.title ≡ o.descriptor w.at
+    title_is = t.title ∙ moving_title w.at f s t.here
 
-  module _ (p n : ℕ) (d : Descriptor) (f : Memory) (s : Moving o ts bins end p f) (l : p < end) (e : n ≡ len p) (read : d ≡ o.descriptor p) where
-    pub moving_keep : (t : ℕ) (f' f'' : Memory) → bit_and d.flags 8 ≢ 0 → To o ts bins p t → Brought f d p t n f' → f'' ≡ f' → Moving o ts bins end (p + n) f''
-    moving_keep t f' f'' m go b i =
-        let h = stop_title p s.stop l in
-        record {
-          stop = rw e (a.step p h);
-          packed = rw i (packed_keep p t n f b.between f' s.packed h e (λ z. m (rw read z)) go b.slid (rw read at b.wrote));
-        }
+    pub moving_skip : bit_and b.title.flags 8 ≡ 0 → Moving o ts bins end w'.at f
+    moving_skip m = record { stop = next_stop w w' b f t; packed = rw t.onward (packed_skip w.at (len w.at) f s.packed t.here refl (rw title_is at m)) }
 
-    pub moving_skip : (f' : Memory) → bit_and d.flags 8 ≡ 0 → f' ≡ f → Moving o ts bins end (p + n) f'
-    moving_skip f' m i =
-        let h = stop_title p s.stop l in
-        record { stop = rw e (a.step p h); packed = rw i (packed_skip p n f s.packed h e (rw read at m)) }
+    module _ (m : bit_and b.title.flags 8 ≢ 0) (ws : List ℕ) (e u : ℕ) (tb : Tabled o ts bins end end e ws) (new : u ≡ get_or ws b.at 0) where
+      is_marked : IsMarked o w.at
+      is_marked z = m (rw title_is z)
 
-  pub moving_all : (p : ℕ) (f : Memory) → Moving o ts bins end p f → end ≤ p → Packed o ts bins end f
-  moving_all p f s l =
-      ⊎_elim (λ h. absurd (let x = a.high p h in let y = positive p in omega arith)) (λ e. rw e at s.packed) s.stop
+      goes : To o ts bins w.at u
+      goes = rw (new, t.at) (tb.table w.at t.here (let h = a.high w.at t.here in let y = positive w.at in omega arith) is_marked)
+
+      pub moving_fits : (u ≤ b.at) × (1 ≤ b.cells) × (b.at + b.cells ≤ f.figures.cells) × (b.title.kind ≤ 65535)
+      moving_fits =
+          let d = (to_low w.at u goes).1 in let x = t.at in let c = t.cells in let y = positive w.at in
+          let i = ap (λ (x : Figures). x.cells) s.packed.figures in let h = a.high w.at t.here in let n = a.within in
+          (omega arith, omega arith, omega arith, rw title_is (a.few w.at t.here))
+
+      pub moving_keep : (f' : Memory) → Brought f b.title b.at u b.cells f' → Moving o ts bins end w'.at f'
+      moving_keep f' br =
+          record {
+            stop = next_stop w w' b f t;
+            packed = rw t.onward (packed_keep w.at u (len w.at) f br.between f' s.packed t.here refl is_marked goes (rw (t.at, t.cells) at br.slid) (rw title_is at br.wrote));
+          }

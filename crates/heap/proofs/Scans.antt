@@ -1,5 +1,5 @@
 -- The fields of one block, and the whole queue.
-use Rattle.std.proofs.Common.{◌≡◌, ℕ, ◌+◌, ◌<◌, ◌≤◌, ◌≢◌, ◌⊎◌, List, get_or, refl, ap, ◌∙◌, ⊎_elim, arith}
+use Rattle.std.proofs.Common.{◌≡◌, ℕ, ◌+◌, ◌-◌, ◌<◌, ◌≤◌, ◌≢◌, ◌⊎◌, List, get_or, refl, ap, ◌∙◌, ⊎_elim, arith}
 use native.Mathlib.Decide.{dec_lt}
 use lib.Bits.{bit_and}
 use Rattle.cells.specs.declared.Descriptor.{Descriptor}
@@ -43,10 +43,14 @@ module _ (m : Memory) (ts : List ℕ) (ws : List ℕ) (n : ℕ) (o : Memory) (a 
       clash d (plain z) f = ⊎_elim (λ x. omega arith) (λ x. omega arith) f
       clash d (pointer q z) f = let y = z.flag in ⊎_elim (λ x. omega arith) (λ x. omega arith) f
 
-  pub field_below : (p k : ℕ) → In p ts → k < count (m.descriptor p) → p + 1 + k < o.figures.cells
-  field_below p k h l =
-      let e = ap (λ (f : Figures). f.cells) a.figures in
-      let w = (a.ground.titled p h).within in omega arith
+  -- The cell c of a field of p.
+  pub cell_now : (p c : ℕ) → In p ts → p < c → c < p + 1 + count (m.descriptor p) → (o.descriptor c ≡ m.descriptor c) × (c < o.figures.cells) × Valued m ts (m.descriptor c)
+  cell_now p c h l u =
+      let k : ℕ = c - (p + 1) in
+      let e : p + 1 + k ≡ c = omega arith in
+      let i = ap (λ (f : Figures). f.cells) a.figures in
+      let w = (a.ground.titled p h).within in
+      (rw e at (field_now p k h (omega arith)), omega arith, rw e at (a.ground.valued p k h (omega arith)))
 
   pub scanned_none : (p : ℕ) → Scanned m ts p 0 ws n ws n o
   scanned_none p =
@@ -67,36 +71,22 @@ module _ (m : Memory) (ts : List ℕ) (ws : List ℕ) (n : ℕ) (o : Memory) (a 
         sound = λ i l. root (i, l, refl);
       }
 
--- One field more.
-pub scanned_more : (m : Memory) (ts ws : List ℕ) (n p k : ℕ) (d : Descriptor) (ws' : List ℕ) (n' : ℕ) (o' : Memory) (ws'' : List ℕ) (n'' : ℕ) (o'' : Memory) →
-    d ≡ m.descriptor (p + 1 + k) → Scanned m ts p k ws n ws' n' o' → Visited m ts ws' n' d ws'' n'' o'' → Scanned m ts p (k + 1) ws n ws'' n'' o''
-scanned_more m ts ws n p k d ws' n' o' ws'' n'' o'' e s v =
+-- One field more, in the cell c.
+pub scanned_more : (m : Memory) (ts ws : List ℕ) (n p c : ℕ) (d : Descriptor) (ws' : List ℕ) (n' : ℕ) (o' : Memory) (ws'' : List ℕ) (n'' : ℕ) (o'' : Memory) → p < c →
+    d ≡ m.descriptor c → Scanned m ts p (c - (p + 1)) ws n ws' n' o' → Visited m ts ws' n' d ws'' n'' o'' → Scanned m ts p (c + 1 - (p + 1)) ws n ws'' n'' o''
+scanned_more m ts ws n p c d ws' n' o' ws'' n'' o'' low e s v =
     record {
       queue = v.queue;
       grew = grew_twice ws ws' ws'' n n' n'' s.grew v.grew;
-      here = λ j q l x. elim (compare_cells j k) [
+      here = λ j q l x. elim (compare_cells (p + 1 + j) c) [
         | same z ↦ v.here q (rw (e, ← z) x)
         | apart z ↦ in_grown ws' ws'' n' n'' q v.grew (s.here j q (omega arith) x)
       ];
       new = λ i l h. elim (dec_lt i n') [
         | yes y ↦ (let w = s.new i l y in (w.0, (let z = w.1 in omega arith), rw (v.grew.kept i y) w.2))
-        | no y ↦ (k, omega arith, rw (← e) (v.new i (omega arith) h))
+        | no y ↦ (c - (p + 1), omega arith, let z : p + 1 + (c - (p + 1)) ≡ c = omega arith in rw (z, ← e) (v.new i (omega arith) h))
       ];
     }
-
--- What is no pointer adds nothing.
-pub visited_plain : (m : Memory) (ts ws : List ℕ) (n : ℕ) (d : Descriptor) (o : Memory) → Queue m ts ws n o → bit_and d.flags 16 ≡ 0 → Visited m ts ws n d ws n o
-visited_plain m ts ws n d o a z =
-    record {
-      queue = a;
-      grew = record { more = omega arith; kept = λ i l. refl };
-      here = λ q x. absurd (let w : bit_and 16 16 ≡ 0 = rw x.flag at z in omega arith);
-      new = λ i l h. absurd (omega arith);
-    }
-
-pub scanned_at : (m : Memory) (ts ws : List ℕ) (n p k : ℕ) (ws' : List ℕ) (n' : ℕ) (o' : Memory) (ws'' : List ℕ) (n'' : ℕ) (o'' : Memory) → ws'' ≡ ws' → n'' ≡ n' → o'' ≡ o' →
-    Scanned m ts p k ws n ws' n' o' → Scanned m ts p k ws n ws'' n'' o''
-scanned_at m ts ws n p k ws' n' o' ws'' n'' o'' e f i s = rw (e, f, i) s
 
 -- One block more.
 pub drained_more : (m : Memory) (ts ws : List ℕ) (n h : ℕ) (ws' : List ℕ) (n' : ℕ) (o' : Memory) (ws'' : List ℕ) (n'' : ℕ) (o'' : Memory) → h < n' →

@@ -1,16 +1,19 @@
 -- The walk over the strings.
-use Rattle.std.proofs.Common.{◌≡◌, ℕ, ◌+◌, ◌<◌, ◌≤◌, List, refl, ap, ◌∙◌, ⊎_elim, arith}
+use Rattle.std.proofs.Common.{◌≡◌, ℕ, List, refl, ap, arith}
 use native.Mathlib.Decide.{dec_lt}
 use Rattle.cells.specs.declared.Descriptor.{Descriptor}
-use Rattle.cells.specs.Meaning.{Memory, Figures}
+use Rattle.cells.specs.Meaning.{Memory}
 use Rattle.rules.specs.Lists.{In}
-use Rattle.arena.specs.Titles.{cells_of}
+use Rattle.heap.specs.declared.blocks.Block.{Block}
+use Rattle.heap.specs.declared.blocks.Blocks.{Blocks}
 use Rattle.heap.specs.Marks.{still, marked, Queue, Holding}
 use Rattle.heap.specs.Walks.{length_at, Tiled, Searched}
+use Rattle.heap.specs.Blocks.{Standing}
 use Rattle.heap.proofs.Cells.{same, apart, compare_cells}
 use Rattle.heap.proofs.Queues.{flags_of}
 use Rattle.heap.proofs.Scans.{in_grown, grew_twice}
-use Rattle.heap.proofs.Paths.{stop_title, below_step, positive}
+use Rattle.heap.proofs.Paths.{lower, next_stop}
+use Rattle.heap.proofs.Took.{Took}
 
 module _ (m : Memory) (ts : List ℕ) (bins end : ℕ) (a : Tiled m ts bins end) (ws : List ℕ) (n : ℕ) where
   pub searched_none : (o : Memory) → Queue m ts ws n o → Searched m ts end bins ws n ws n o
@@ -23,44 +26,34 @@ module _ (m : Memory) (ts : List ℕ) (bins end : ℕ) (a : Tiled m ts bins end)
         new = λ i k l. absurd (omega arith);
       }
 
-  module _ (p : ℕ) (ws' : List ℕ) (n' : ℕ) (o : Memory) (s : Searched m ts end p ws n ws' n' o) (l : p < end) (d : Descriptor) (read : d ≡ o.descriptor p) where
-    pub at : In p ts
-    at = stop_title m ts bins end a p s.stop l
-
-    kind_is : d.kind ≡ (m.descriptor p).kind
-    kind_is = elim (s.queue.states p) [ still ne x ch ↦ ap (λ (y : Descriptor). y.kind) (read ∙ x) | marked i x ↦ ap (λ (y : Descriptor). y.kind) (read ∙ x) ]
-
-    pub some_kind : 1 ≤ d.kind
-    some_kind = rw kind_is (a.some p at)
-
-    pub few_kind : d.kind ≤ 65535
-    few_kind = rw kind_is (a.few p at)
-
-    pub length_now : (c k : ℕ) → c ≡ o.figures.places → k ≡ cells_of c d → k ≡ length_at m p
-    length_now c k e f = f ∙ ap (λ x. cells_of x d) (e ∙ ap (λ (x : Figures). x.places) s.queue.figures) ∙ same_cells
+  module _ (w : Blocks) (ws' : List ℕ) (n' : ℕ) (o : Memory) (s : Searched m ts end w.at ws n ws' n' o) where
+    -- A mark changes neither the kind nor the length of a title.
+    pub standing_marked : w.end ≡ end → Standing m ts bins end w o
+    standing_marked e =
+        record { tiled = a; same_end = e; stop = s.stop; figures = s.queue.figures; kind = kind; length = length }
       where
-        same_cells : cells_of m.figures.places d ≡ cells_of m.figures.places (m.descriptor p)
-        same_cells = elim (s.queue.states p) [
-          | still ne x ch ↦ ap (cells_of m.figures.places) (read ∙ x)
-          | marked i x ↦ ap (cells_of m.figures.places) (read ∙ x) ∙ rw (flags_of _ (s.queue.ground.titled p at).flag).alike refl
+        kind : In w.at ts → (o.descriptor w.at).kind ≡ (m.descriptor w.at).kind
+        kind h = elim (s.queue.states w.at) [ still ne x ch ↦ ap (λ (y : Descriptor). y.kind) x | marked i x ↦ ap (λ (y : Descriptor). y.kind) x ]
+
+        length : In w.at ts → length_at o w.at ≡ length_at m w.at
+        length h = elim (s.queue.states w.at) [
+          | still ne x ch ↦ rw (x, s.queue.figures) refl
+          | marked i x ↦ rw (x, s.queue.figures, (flags_of _ (s.queue.ground.titled w.at h).flag).alike) refl
         ]
 
-    pub searched_more : (k : ℕ) (ws'' : List ℕ) (n'' : ℕ) (o'' : Memory) → k ≡ length_at m p → Holding m p ws' n' ts ws'' n'' o'' → Searched m ts end (p + k) ws n ws'' n'' o''
-    searched_more k ws'' n'' o'' e b =
+    pub searched_more : (w' : Blocks) (b : Block) → Took m ts w b o w' → (ws'' : List ℕ) (n'' : ℕ) (o'' : Memory) → Holding m b.at ws' n' ts ws'' n'' o'' → Searched m ts end w'.at ws n ws'' n'' o''
+    searched_more w' b t ws'' n'' o'' h' =
+        let v = rw t.at at h' in
         record {
-          stop = rw e (a.step p at);
-          queue = b.queue;
-          grew = grew_twice ws ws' ws'' n n' n'' s.grew b.grew;
-          here = λ q j h x f y nn. elim (compare_cells q p) [
-            | same z ↦ rw z (b.here j (rw (← z) f) y (rw (← z) nn))
-            | apart z ↦ in_grown ws' ws'' n' n'' q b.grew (s.here q j h (below_step m ts bins end a p q at h (rw (← e) x) z) f y nn)
+          stop = next_stop m ts bins end a w w' b o t;
+          queue = v.queue;
+          grew = grew_twice ws ws' ws'' n n' n'' s.grew v.grew;
+          here = λ q j h x f y nn. elim (compare_cells q w.at) [
+            | same z ↦ rw z (v.here j (rw (← z) f) y (rw (← z) nn))
+            | apart z ↦ in_grown ws' ws'' n' n'' q v.grew (s.here q j h (lower m ts bins end a w w' b o t q h x z) f y nn)
           ];
           new = λ i x y. elim (dec_lt i n') [
-            | yes z ↦ rw (b.grew.kept i z) (s.new i x z)
-            | no z ↦ (let w = b.new i (omega arith) y in rw w.0 (at, w.1, w.2))
+            | yes z ↦ rw (v.grew.kept i z) (s.new i x z)
+            | no z ↦ (let u = v.new i (omega arith) y in rw u.0 (t.here, u.1, u.2))
           ];
         }
-
-  pub searched_all : (p : ℕ) (ws' : List ℕ) (n' : ℕ) (o : Memory) → Searched m ts end p ws n ws' n' o → end ≤ p → Searched m ts end end ws n ws' n' o
-  searched_all p ws' n' o s l =
-      ⊎_elim (λ h. absurd (let x = a.high p h in let y = positive m ts bins end a p in omega arith)) (λ e. rw e at s) s.stop

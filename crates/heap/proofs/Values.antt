@@ -1,5 +1,5 @@
 -- Values and their new descriptors.
-use Rattle.std.proofs.Common.{◌≡◌, ℕ, ◌+◌, ◌<◌, ◌≤◌, Bool, true, false, cond, eqb, ◌≢◌, ◌⊎◌, List, length, get_or, set, pos, Ok, Result, sym, refl, ap, ◌∙◌, subst, inl, inr, ⊎_elim, arith, length-set, get_or-set_other, get_or-set_same}
+use Rattle.std.proofs.Common.{◌≡◌, ℕ, ◌+◌, ◌-◌, ◌<◌, ◌≤◌, Bool, true, false, cond, eqb, ◌≢◌, ◌⊎◌, List, length, get_or, set, pos, Ok, Result, sym, refl, ap, ◌∙◌, subst, inl, inr, ⊎_elim, arith, length-set, get_or-set_other, get_or-set_same}
 use lib.Bits.{bit_and}
 use Rattle.std.proofs.lemmas.List.{get_or_default}
 use Rattle.cells.specs.declared.Descriptor.{Descriptor}
@@ -9,66 +9,86 @@ use Rattle.rules.specs.Lists.{In}
 use Rattle.rules.specs.Arena.{desc, null_desc}
 use Rattle.arena.specs.declared.faults.HeapFault.{HeapFault}
 use Rattle.arena.specs.Titles.{Back, count, cells_of}
+use Rattle.heap.specs.declared.blocks.Block.{Block}
+use Rattle.heap.specs.declared.blocks.Blocks.{Blocks}
 use Rattle.heap.specs.Walks.{length_at, Tiled}
 use Rattle.heap.specs.Moves.{Hits, Ready, value, pointer, Goes, value_goes, pointer_goes, Relocating, Relocated, Prepared, Shifting}
 use Rattle.heap.proofs.Cells.{same, apart, compare_cells}
-use Rattle.heap.proofs.Paths.{less, equal, more, order_of, positive, stop_title, below_step}
+use Rattle.heap.proofs.Paths.{less, equal, more, order_of, lower, next_stop}
+use Rattle.heap.proofs.Took.{Took}
 
 back_flags : (m r : Memory) (q k : ℕ) → ((c : ℕ) → (r.descriptor c).flags ≡ (m.descriptor c).flags) → Back m q k → Back r q k
 back_flags m r q k f b = record { title = rw (f q) b.title; passed = λ j l h. rw (f j) (b.passed j l h) }
 
-module _ (m : Memory) (ws : List ℕ) (p k : ℕ) (r : Memory) (s : Relocating m ws p k r) where
-  pub hits_now : (d : Descriptor) (q i : ℕ) → Hits m ws d q i → Hits r ws d q i
-  hits_now d q i h =
-      record {
-        flag = h.flag;
-        value = h.value;
-        within = (let e = ap (λ (x : Figures). x.cells) s.figures in let w = h.within in omega arith);
-        back = back_flags m r q i s.flags h.back;
-        listed = h.listed;
-        small = h.small;
-      }
+hits_flags : (m r : Memory) (ws : List ℕ) (d : Descriptor) (q i : ℕ) → r.figures ≡ m.figures → ((c : ℕ) → (r.descriptor c).flags ≡ (m.descriptor c).flags) → Hits m ws d q i → Hits r ws d q i
+hits_flags m r ws d q i fg fl h =
+    record {
+      flag = h.flag;
+      value = h.value;
+      within = (let e = ap (λ (x : Figures). x.cells) fg in let w = h.within in omega arith);
+      back = back_flags m r q i fl h.back;
+      listed = h.listed;
+      small = h.small;
+    }
 
-  pub read_field : (d : Descriptor) → d ≡ r.descriptor (p + 1 + k) → d ≡ m.descriptor (p + 1 + k)
-  read_field d e = e ∙ s.rest (p + 1 + k) (inr (omega arith))
+pub relocating_none : (m : Memory) (ws : List ℕ) (p : ℕ) → Relocating m ws p (p + 1 - (p + 1)) m
+relocating_none m ws p =
+    record {
+      figures = refl;
+      flags = λ c. refl;
+      done = λ j l. absurd (let z : p + 1 - (p + 1) ≡ 0 = omega arith in omega arith);
+      rest = λ c l. refl;
+      rest_characters = λ c j l. refl;
+    }
+
+pub ready_field : (m : Memory) (ws : List ℕ) (p n : ℕ) → ((k : ℕ) → k < n → Ready m ws (m.descriptor (p + 1 + k))) → (c : ℕ) → p < c → c < p + 1 + n → Ready m ws (m.descriptor c)
+ready_field m ws p n re c low l = let e : p + 1 + (c - (p + 1)) ≡ c = omega arith in rw e at (re (c - (p + 1)) (omega arith))
+
+-- The walk over the fields of the block at p stands at the cell c.
+module _ (m : Memory) (ws : List ℕ) (p c : ℕ) (low : p < c) (r : Memory) (s : Relocating m ws p (c - (p + 1)) r) where
+  field : p + 1 + (c - (p + 1)) ≡ c
+  field = omega arith
+
+  hits_now : (d : Descriptor) (q i : ℕ) → Hits m ws d q i → Hits r ws d q i
+  hits_now d q i h = hits_flags m r ws d q i s.figures s.flags h
+
+  pub read_field : r.descriptor c ≡ m.descriptor c
+  read_field = s.rest c (inr (omega arith))
 
   -- The descriptor d and what the code makes of it.
-  pub relocating_more : (d d' : Descriptor) (r' : Memory) → d ≡ m.descriptor (p + 1 + k) → d'.flags ≡ d.flags → Goes m ws d d' → WroteDescriptor r (p + 1 + k) d' r' → Relocating m ws p (k + 1) r'
+  pub relocating_more : (d d' : Descriptor) (r' : Memory) → d ≡ m.descriptor c → d'.flags ≡ d.flags → Goes m ws d d' → WroteDescriptor r c d' r' → Relocating m ws p (c + 1 - (p + 1)) r'
   relocating_more d d' r' e fl go w =
       record {
         figures = w.figures ∙ s.figures;
-        flags = λ c. elim (compare_cells c (p + 1 + k)) [
+        flags = λ i. elim (compare_cells i c) [
           | same z ↦ rw z (ap (λ (x : Descriptor). x.flags) w.here ∙ fl ∙ ap (λ (x : Descriptor). x.flags) e)
-          | apart z ↦ ap (λ (x : Descriptor). x.flags) (w.descriptors c z) ∙ s.flags c
+          | apart z ↦ ap (λ (x : Descriptor). x.flags) (w.descriptors i z) ∙ s.flags i
         ];
-        done = λ j l. elim (compare_cells j k) [
+        done = λ j l. elim (compare_cells (p + 1 + j) c) [
           | same z ↦ rw (z, w.here, ← e) go
-          | apart z ↦ rw (w.descriptors (p + 1 + j) (omega arith)) (s.done j (omega arith))
+          | apart z ↦ rw (w.descriptors (p + 1 + j) z) (s.done j (omega arith))
         ];
-        rest = λ c l. w.descriptors c (⊎_elim (λ x. omega arith) (λ x. omega arith) l) ∙ s.rest c (⊎_elim (λ x. inl x) (λ x. inr (omega arith)) l);
-        rest_characters = λ c j l. w.characters c j (⊎_elim (λ x. omega arith) (λ x. omega arith) l) ∙ s.rest_characters c j (⊎_elim (λ x. inl x) (λ x. inr (omega arith)) l);
+        rest = λ i l. w.descriptors i (⊎_elim (λ x. omega arith) (λ x. omega arith) l) ∙ s.rest i (⊎_elim (λ x. inl x) (λ x. inr (omega arith)) l);
+        rest_characters = λ i j l. w.characters i j (⊎_elim (λ x. omega arith) (λ x. omega arith) l) ∙ s.rest_characters i j (⊎_elim (λ x. inl x) (λ x. inr (omega arith)) l);
       }
 
   -- A field that is no pointer stays.
-  pub relocating_same : (d : Descriptor) (r' : Memory) → d ≡ m.descriptor (p + 1 + k) → bit_and d.flags 16 ≡ 0 → Ready m ws (m.descriptor (p + 1 + k)) → r' ≡ r → Relocating m ws p (k + 1) r'
-  relocating_same d r' e z y i =
-      rw i (record {
+  pub relocating_same : (d : Descriptor) → d ≡ m.descriptor c → bit_and d.flags 16 ≡ 0 → Ready m ws (m.descriptor c) → Relocating m ws p (c + 1 - (p + 1)) r
+  relocating_same d e z y =
+      record {
         figures = s.figures;
         flags = s.flags;
-        done = λ j l. elim (compare_cells j k) [
-          | same x ↦ rw (x, s.rest (p + 1 + k) (inr (omega arith))) (by _ (rw e at z) y)
+        done = λ j l. elim (compare_cells (p + 1 + j) c) [
+          | same x ↦ rw (x, read_field) (by _ (rw e at z) y)
           | apart x ↦ s.done j (omega arith)
         ];
-        rest = λ c l. s.rest c (⊎_elim (λ x. inl x) (λ x. inr (omega arith)) l);
-        rest_characters = λ c j l. s.rest_characters c j (⊎_elim (λ x. inl x) (λ x. inr (omega arith)) l);
-      })
+        rest = λ i l. s.rest i (⊎_elim (λ x. inl x) (λ x. inr (omega arith)) l);
+        rest_characters = λ i j l. s.rest_characters i j (⊎_elim (λ x. inl x) (λ x. inr (omega arith)) l);
+      }
     where
       by : (e : Descriptor) → bit_and e.flags 16 ≡ 0 → Ready m ws e → Goes m ws e e
       by e z (value f) = value_goes f refl
       by e z (pointer q i h) = absurd (let w : bit_and 16 16 ≡ 0 = rw h.flag at z in omega arith)
-
-pub relocating_at : (m : Memory) (ws : List ℕ) (p k : ℕ) (r r' : Memory) → Relocating m ws p k r → r' ≡ r → Relocating m ws p k r'
-relocating_at m ws p k r r' s e = rw e s
 
 -- What `forward` gives, from its two clauses.
 pub record Came (m : Memory) (ws : List ℕ) (d d' : Descriptor) : Type 0 where
@@ -90,23 +110,22 @@ came_small m ws d d' b = let f = b.flags in by b.goes
     by (value_goes z e) = let f = b.flags in omega arith
     by (pointer_goes q k h e) = let f = b.flags in let z = h.flag in omega arith
 
-module _ (m : Memory) (ws : List ℕ) (p k : ℕ) (r : Memory) (s : Relocating m ws p k r) (d : Descriptor) (read : d ≡ m.descriptor (p + 1 + k)) where
+module _ (m : Memory) (ws : List ℕ) (p c : ℕ) (low : p < c) (r : Memory) (s : Relocating m ws p (c - (p + 1)) r) (d : Descriptor) (read : d ≡ m.descriptor c) where
   pub forward_gives : (res : Result Descriptor HeapFault) → (d.flags ≡ 0 → res ≡ Ok d) →
-      ((q i : ℕ) → Hits r ws d q i → res ≡ Ok (desc (pos (get_or ws q 0 + i)) 16 d.kind)) → Ready m ws (m.descriptor (p + 1 + k)) →
+      ((q i : ℕ) → Hits r ws d q i → res ≡ Ok (desc (pos (get_or ws q 0 + i)) 16 d.kind)) → Ready m ws (m.descriptor c) →
       (d' : Descriptor) × (res ≡ Ok d') × Came m ws d d'
   forward_gives res pl mo y = by (rw (← read) at y)
     where
       by : Ready m ws d → (d' : Descriptor) × (res ≡ Ok d') × Came m ws d d'
       by (value z) = (d, pl z, came_value m ws d d z refl)
-      by (pointer q i h) = (desc (pos (get_or ws q 0 + i)) 16 d.kind, mo q i (hits_now m ws p k r s d q i h), came_pointer m ws d _ q i h refl)
+      by (pointer q i h) = (desc (pos (get_or ws q 0 + i)) 16 d.kind, mo q i (hits_now m ws p c low r s d q i h), came_pointer m ws d _ q i h refl)
 
-  pub fits_new : (n : ℕ) (d' : Descriptor) → Came m ws d d' → Sound r → p + n < m.figures.cells → k < n →
-      (p + 1 + k < r.figures.cells) × FitDescriptor r.figures d'
-  fits_new n d' b snd w l =
+  pub fits_new : (d' : Descriptor) → Came m ws d d' → Sound r → c < m.figures.cells → (c < r.figures.cells) × FitDescriptor r.figures d'
+  fits_new d' b snd l =
       let e = ap (λ (x : Figures). x.cells) s.figures in
       let z = b.kind in
-      let y = ap (λ (x : Descriptor). x.kind) (read ∙ sym (s.rest (p + 1 + k) (inr (omega arith)))) in
-      let h : (r.descriptor (p + 1 + k)).kind ≤ r.figures.largest = snd.kinds (p + 1 + k) (omega arith) in
+      let y = ap (λ (x : Descriptor). x.kind) (read ∙ sym (read_field m ws p c low r s)) in
+      let h : (r.descriptor c).kind ≤ r.figures.largest = snd.kinds c (omega arith) in
       (omega arith, (came_small m ws d d' b, omega arith))
 
 pub count_below : (c : ℕ) (d : Descriptor) → count d < cells_of c d
@@ -115,17 +134,6 @@ count_below c d = by (eqb (bit_and d.flags 4) 0)
     by : (b : Bool) → cond b d.kind string_fields < cond b (d.kind + 1) (string_cells c d.kind)
     by true = omega arith
     by false = omega arith
-
-hits_flags : (m r : Memory) (ws : List ℕ) (d : Descriptor) (q i : ℕ) → r.figures ≡ m.figures → ((c : ℕ) → (r.descriptor c).flags ≡ (m.descriptor c).flags) → Hits m ws d q i → Hits r ws d q i
-hits_flags m r ws d q i fg fl h =
-    record {
-      flag = h.flag;
-      value = h.value;
-      within = (let e = ap (λ (x : Figures). x.cells) fg in let w = h.within in omega arith);
-      back = back_flags m r q i fl h.back;
-      listed = h.listed;
-      small = h.small;
-    }
 
 ready_flags : (m r : Memory) (ws : List ℕ) (d : Descriptor) → r.figures ≡ m.figures → ((c : ℕ) → (r.descriptor c).flags ≡ (m.descriptor c).flags) → Ready m ws d → Ready r ws d
 ready_flags m r ws d fg fl (value z) = value z
@@ -149,83 +157,65 @@ module _ (o : Memory) (ts ws : List ℕ) (bins end : ℕ) (a : Tiled o ts bins e
         tails = λ q k j h l m. refl;
       }
 
-  module _ (p : ℕ) (r : Memory) (s : Relocated o ts ws bins end p r) (l : p < end) (n : ℕ) (e : n ≡ length_at o p) (d : Descriptor) (read : d ≡ o.descriptor p) where
-    at : In p ts
-    at = stop_title o ts bins end a p s.stop l
+  module _ (w w' : Blocks) (b : Block) (r : Memory) (t : Took o ts w b r w') (s : Relocated o ts ws bins end w.at r) where
+    read : b.title ≡ o.descriptor w.at
+    read = t.title ∙ s.titles w.at t.here
 
-    lower : (q : ℕ) → In q ts → q < p + n → q ≢ p → q < p
-    lower q h k ne = below_step o ts bins end a p q at h (rw (← e) k) ne
+    mv : count b.title < length_at o w.at
+    mv = rw read (count_below o.figures.places (o.descriptor w.at))
 
-    mv : count d < n
-    mv = rw (read, e) (count_below o.figures.places (o.descriptor p))
-
-    pub fields_fit : p + count d < r.figures.cells
-    fields_fit =
-        let i = ap (λ (x : Figures). x.cells) s.figures in let w = a.within in let x = a.high p at in let y = mv in omega arith
-
-    pub ready_now : Prepared o ts ws → bit_and d.flags 8 ≢ 0 → (k : ℕ) → k < count d → Ready r ws (r.descriptor (p + 1 + k))
-    ready_now pr m k h =
-        rw (s.rest (p + 1 + k) (inr (omega arith))) (ready_flags o r ws _ s.figures s.flags (pr.ready p k at (λ z. m (rw read z)) (rw (ap count read) at h)))
-
-    pub relocated_skip : (r' : Memory) → bit_and d.flags 8 ≡ 0 → r' ≡ r → Relocated o ts ws bins end (p + n) r'
-    relocated_skip r' m i =
-        rw i (record {
-          stop = rw e (a.step p at);
+    pub relocated_skip : bit_and b.title.flags 8 ≡ 0 → Relocated o ts ws bins end w'.at r
+    relocated_skip m =
+        let k = t.onward in
+        record {
+          stop = next_stop o ts bins end a w w' b r t;
           figures = s.figures;
           flags = s.flags;
-          done = λ q k h x mq y. s.done q k h (lower q h x (λ z. mq (rw (z, ← read) m))) mq y;
+          done = λ q k h x mq y. s.done q k h (lower o ts bins end a w w' b r t q h x (λ z. mq (rw (z, ← read) m))) mq y;
           titles = s.titles;
           rest = λ c x. s.rest c (⊎_elim (λ y. inl y) (λ y. inr (omega arith)) x);
           links = s.links;
           tails = s.tails;
-        })
+        }
 
-    pub relocated_keep : (r' r'' : Memory) → bit_and d.flags 8 ≢ 0 → Relocating r ws p (count d) r' → r'' ≡ r' → Relocated o ts ws bins end (p + n) r''
-    relocated_keep r' r'' m b i =
-        rw i (record {
-          stop = rw e (a.step p at);
-          figures = b.figures ∙ s.figures;
-          flags = λ c. b.flags c ∙ s.flags c;
-          done = λ q k h x mq y. elim (compare_cells q p) [
-            | same z ↦ rw z (let y' : k < count d = rw (ap count read, ← z) y in
-                rw (s.rest (p + 1 + k) (inr (omega arith))) at (goes_flags r o ws _ _ (sym s.figures) (λ c. sym (s.flags c)) (b.done k y')))
-            | apart z ↦ (let u = lower q h x z in let v = a.gap q p h at u in let w = count_below o.figures.places (o.descriptor q) in
-                rw (b.rest (q + 1 + k) (inl (omega arith))) (s.done q k h u mq y))
-          ];
-          titles = λ q h. b.rest q (side q 0 h) ∙ s.titles q h;
-          rest = λ c x. (let u = a.low p at in let v = mv in b.rest c (⊎_elim (λ y. inl (omega arith)) (λ y. inr (omega arith)) x) ∙ s.rest c (⊎_elim (λ y. inl y) (λ y. inr (omega arith)) x));
-          links = λ q k h x y. b.rest (q + k) (tail q k h x y) ∙ s.links q k h x y;
-          tails = λ q k j h x y. b.rest_characters (q + k) j (tail q k h x y) ∙ s.tails q k j h x y;
-        })
-      where
-        side : (q k : ℕ) → In q ts → (q ≤ p) ⊎ (p + 1 + count d ≤ q)
-        side q k h = elim (order_of q p)
-            [ less u ↦ inl (omega arith) | equal u ↦ inl (omega arith) | more u ↦ inr (let g = a.gap p q at h u in let v = mv in omega arith) ]
+    module _ (m : bit_and b.title.flags 8 ≢ 0) where
+      pub fields_fit : b.at + count b.title < r.figures.cells
+      fields_fit =
+          let i = ap (λ (x : Figures). x.cells) s.figures in let n = a.within in let x = a.high w.at t.here in let y = mv in let z = t.at in omega arith
 
-        tail : (q k : ℕ) → In q ts → count (o.descriptor q) < k → k < length_at o q → (q + k ≤ p) ⊎ (p + 1 + count d ≤ q + k)
-        tail q k h x y = elim (order_of q p) [
-          | less u ↦ inl (let g = a.gap q p h at u in omega arith)
-          | equal u ↦ inr (let f = ap (λ (c : ℕ). count (o.descriptor c)) u in let g = ap count read in omega arith)
-          | more u ↦ inr (let g = a.gap p q at h u in let v = mv in omega arith)
-        ]
+      pub ready_now : Prepared o ts ws → (k : ℕ) → k < count b.title → Ready r ws (r.descriptor (b.at + 1 + k))
+      ready_now pr k h =
+          rw (t.at, s.rest (w.at + 1 + k) (inr (omega arith))) (ready_flags o r ws _ s.figures s.flags (pr.ready w.at k t.here (λ z. m (rw read z)) (rw (ap count read) at h)))
 
-    -- The same for a number v that the code has counted.
-    module _ (v : ℕ) (is : v ≡ count d) where
-      pub fields_fit_v : p + v < r.figures.cells
-      fields_fit_v = rw is fields_fit
+      pub relocated_keep : (r' : Memory) → Relocating r ws b.at (count b.title) r' → Relocated o ts ws bins end w'.at r'
+      relocated_keep r' g' =
+          let g = rw t.at at g' in let k = t.onward in let v = mv in
+          record {
+            stop = next_stop o ts bins end a w w' b r t;
+            figures = g.figures ∙ s.figures;
+            flags = λ c. g.flags c ∙ s.flags c;
+            done = λ q k h x mq y. elim (compare_cells q w.at) [
+              | same z ↦ rw z (let y' : k < count b.title = rw (ap count read, ← z) y in
+                  rw (s.rest (w.at + 1 + k) (inr (omega arith))) at (goes_flags r o ws _ _ (sym s.figures) (λ c. sym (s.flags c)) (g.done k y')))
+              | apart z ↦ (let u = lower o ts bins end a w w' b r t q h x z in let v = a.gap q w.at h t.here u in let n = count_below o.figures.places (o.descriptor q) in
+                  rw (g.rest (q + 1 + k) (inl (omega arith))) (s.done q k h u mq y))
+            ];
+            titles = λ q h. g.rest q (side q h) ∙ s.titles q h;
+            rest = λ c x. (let u = a.low w.at t.here in g.rest c (⊎_elim (λ y. inl (omega arith)) (λ y. inr (omega arith)) x) ∙ s.rest c (⊎_elim (λ y. inl y) (λ y. inr (omega arith)) x));
+            links = λ q k h x y. g.rest (q + k) (tail q k h x y) ∙ s.links q k h x y;
+            tails = λ q k j h x y. g.rest_characters (q + k) j (tail q k h x y) ∙ s.tails q k j h x y;
+          }
+        where
+          side : (q : ℕ) → In q ts → (q ≤ w.at) ⊎ (w.at + 1 + count b.title ≤ q)
+          side q h = elim (order_of q w.at)
+              [ less u ↦ inl (omega arith) | equal u ↦ inl (omega arith) | more u ↦ inr (let g = a.gap w.at q t.here h u in let v = mv in omega arith) ]
 
-      pub ready_now_v : Prepared o ts ws → bit_and d.flags 8 ≢ 0 → (k : ℕ) → k < v → Ready r ws (r.descriptor (p + 1 + k))
-      ready_now_v pr m k h = ready_now pr m k (rw is at h)
-
-      pub relocated_keep_v : (r' r'' : Memory) → bit_and d.flags 8 ≢ 0 → Relocating r ws p v r' → r'' ≡ r' → Relocated o ts ws bins end (p + n) r''
-      relocated_keep_v r' r'' m b i = relocated_keep r' r'' m (rw is at b) i
-
-  pub read_relocated : (p : ℕ) (r : Memory) (d : Descriptor) → Relocated o ts ws bins end p r → d ≡ r.descriptor p → d ≡ o.descriptor p
-  read_relocated p r d s e = e ∙ s.rest p (inr (omega arith))
-
-  pub relocated_all : (p : ℕ) (r : Memory) → Relocated o ts ws bins end p r → end ≤ p → Relocated o ts ws bins end end r
-  relocated_all p r s l =
-      ⊎_elim (λ h. absurd (let x = a.high p h in let y = positive o ts bins end a p in omega arith)) (λ e. rw e at s) s.stop
+          tail : (q k : ℕ) → In q ts → count (o.descriptor q) < k → k < length_at o q → (q + k ≤ w.at) ⊎ (w.at + 1 + count b.title ≤ q + k)
+          tail q k h x y = elim (order_of q w.at) [
+            | less u ↦ inl (let g = a.gap q w.at h t.here u in omega arith)
+            | equal u ↦ inr (let f = ap (λ (c : ℕ). count (o.descriptor c)) u in let g = ap count read in omega arith)
+            | more u ↦ inr (let g = a.gap w.at q t.here h u in let v = mv in omega arith)
+          ]
 
 -- A register and what `forward` gives for it.
 pub forward_one : (m : Memory) (ws : List ℕ) (d e : Descriptor) (res : Result Descriptor HeapFault) → d ≡ e → (d.flags ≡ 0 → res ≡ Ok d) →

@@ -1,5 +1,6 @@
 pub mod Marks
 pub mod Walks
+pub mod Blocks
 pub mod Moves
 pub mod Threads
 pub mod Regeneration

@@ -1,5 +1,5 @@
 -- Pointers move by as much as their blocks. `ws` has, at a title's cell, its new cell.
-use Rattle.std.specs.Prelude.{◌≡◌, ℕ, ◌+◌, ◌<◌, ◌≤◌, ◌⊎◌, List, length, get_or, pos, slice_index, slice_index_or}
+use Rattle.std.specs.Prelude.{◌≡◌, ℕ, ◌+◌, ◌<◌, ◌≤◌, ◌⊎◌, List, length, pos, slice_index, slice_index_or}
 use Rattle.cells.specs.declared.Descriptor.{Descriptor}
 use Rattle.cells.specs.Meaning.{Memory}
 use Rattle.rules.specs.Lists.{In}
@@ -15,7 +15,7 @@ pub record Hits (m : Memory) (ws : List ℕ) (d : Descriptor) (q k : ℕ) : Type
   pub within : q + k < m.figures.cells
   pub back : Back m q k
   pub listed : q < length ws
-  pub small : get_or ws q 0 + k ≤ 65535
+  pub small : slice_index ws q + k ≤ 65535
 
 -- A descriptor that can be moved.
 pub data Ready (m : Memory) (ws : List ℕ) (d : Descriptor) : Type 0 where

@@ -29,6 +29,6 @@ pub fn last_link(d: Descriptor) -> Descriptor
     Descriptor {
         value: 0,
         flags: 0,
-        kind: d.kind,
+        ..d
     }
 }

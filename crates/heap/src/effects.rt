@@ -2,51 +2,37 @@
 ghost use Rattle.heap.specs.Effects.{NewCells, OnlyReachable, PointersMove, NumbersStay, LabelsKeep, LinksKeepNothing, SecondChangesNothing, PresentFits};
 
 // The new cell of a kept block is the bins plus the cells of all reachable blocks that lay lower, and nothing else is kept.
-pub fn new_cells() -> u8
+pub fn new_cells()
     ensures cells { NewCells }
     ensures only { OnlyReachable }
-{
-    0
-}
+{}
 
 // A pointer moves by as much as its block and keeps the distance to its title.
-pub fn pointers_move() -> u8
+pub fn pointers_move()
     ensures { PointersMove }
-{
-    0
-}
+{}
 
 // A number that equals the cell of a title is not moved.
-pub fn numbers_stay() -> u8
+pub fn numbers_stay()
     ensures { NumbersStay }
-{
-    0
-}
+{}
 
 // A string with a label and no value is kept.
-pub fn labels_keep() -> u8
+pub fn labels_keep()
     ensures { LabelsKeep }
-{
-    0
-}
+{}
 
 // A link keeps nothing alive.
-pub fn links_keep_nothing() -> u8
+pub fn links_keep_nothing()
     ensures { LinksKeepNothing }
-{
-    0
-}
+{}
 
 // A second regeneration changes nothing below next.
-pub fn second_changes_nothing() -> u8
+pub fn second_changes_nothing()
     ensures { SecondChangesNothing }
-{
-    0
-}
+{}
 
 // A text whose string the arena has needs no room, also where nothing reaches the string.
-pub fn present_texts_fit() -> u8
+pub fn present_texts_fit()
     ensures { PresentFits }
-{
-    0
-}
+{}

@@ -1,5 +1,6 @@
 #![tactic(auto)]
 // The heap over any store of cells: marking, moving, regeneration and room.
+mod blocks;
 mod descriptors;
 pub mod effects;
 mod marking;

@@ -7,9 +7,11 @@ ghost use Rattle.arena.specs.Titles.{count};
 ghost use Rattle.heap.specs.Marks.{Valued, Queue, Added, Visited, Scanned, Marked, Registered, Holding};
 ghost use Rattle.heap.specs.Walks.{Tiled, Searched};
 
+use crate::blocks::{Block, Blocks};
 use crate::descriptors::{holds, is_pointer};
+use arena::extent::Extent;
 use arena::faults::{HeapFault, Rule};
-use arena::titles::{cell_of, cells_of, field_count, marked, title_of};
+use arena::titles::{cell_of, field_count, marked, title_of};
 use arena::{MARK, MOST_CELLS, STRING};
 use cells::{Descriptor, Store};
 
@@ -63,17 +65,13 @@ pub fn scan<S: Store>(
     ensures { (m : Memory) (ts : List ℕ) → Queue m ts work.old tail (S.memory store.old) → In title ts →
         ((t : ℕ) × (result ≡ Ok t) × Scanned m ts title (count (m.descriptor title)) work.old tail work.new t (S.memory store.new)) }
 {
-    let t = store.descriptor(title)?;
-    let n = field_count(t);
-    if title > MOST_CELLS || n > MOST_CELLS {
+    let n = field_count(store.descriptor(title)?);
+    if n > MOST_CELLS {
         return Err(HeapFault::Unlawful(Rule::Titles, title));
     }
     let mut end = tail;
-    for k in 0..n {
-        let d = store.descriptor(title + 1 + k)?;
-        if is_pointer(d) {
-            end = visit(store, d, work, end)?;
-        }
+    for cell in title + 1..title + 1 + n {
+        end = visit(store, store.descriptor(cell)?, work, end)?;
     }
     Ok(end)
 }
@@ -84,13 +82,11 @@ pub fn drain<S: Store>(store: &mut S, work: &mut [u32], tail: usize) -> Result<u
         ((t : ℕ) × (result ≡ Ok t) × Marked m ts work.old tail work.new t (S.memory store.new)) }
 {
     let mut end = tail;
-    let mut head = 0;
-    while head < end {
-        if head >= work.len() {
-            return Err(HeapFault::Unlawful(Rule::Titles, 0));
+    for head in 0..work.len() {
+        if head >= end {
+            break;
         }
         end = scan(store, work[head], work, end)?;
-        head += 1;
     }
     Ok(end)
 }
@@ -116,50 +112,38 @@ pub fn mark_registers<S: Store>(
 // Marks and queues a string whose value or label is not null.
 pub fn mark_string<S: Store>(
     store: &mut S,
-    at: u32,
-    t: Descriptor,
+    block: &Block,
     work: &mut [u32],
     tail: usize,
 ) -> Result<usize, HeapFault>
-    ensures { (m : Memory) (ts : List ℕ) → Queue m ts work.old tail (S.memory store.old) → In at ts → t ≡ (S.memory store.old).descriptor at →
-        ((e : ℕ) × (result ≡ Ok e) × Holding m at work.old tail ts work.new e (S.memory store.new)) }
+    ensures { (m : Memory) (ts : List ℕ) → Queue m ts work.old tail (S.memory store.old) → In block.now.at ts → block.now.title ≡ (S.memory store.old).descriptor block.now.at →
+        ((e : ℕ) × (result ≡ Ok e) × Holding m block.now.at work.old tail ts work.new e (S.memory store.new)) }
 {
-    if t.flags & STRING == 0 {
+    if block.title.flags & STRING == 0 {
         return Ok(tail);
     }
-    if at > MOST_CELLS {
-        return Err(HeapFault::Unlawful(Rule::Titles, at));
-    }
-    let value = store.descriptor(at + 1)?;
-    let label = store.descriptor(at + 2)?;
+    let value = store.descriptor(block.at + 1)?;
+    let label = store.descriptor(block.at + 2)?;
     if !holds(value, label) {
         return Ok(tail);
     }
-    enqueue(store, at, work, tail)
+    enqueue(store, block.at, work, tail)
 }
 
 // Marks and queues every string whose value or label is not null.
 pub fn mark_strings<S: Store>(
     store: &mut S,
-    bins: u32,
-    next: u32,
+    extent: Extent,
     work: &mut [u32],
     tail: usize,
 ) -> Result<usize, HeapFault>
-    ensures { (m : Memory) (ts : List ℕ) → Tiled m ts bins next → Queue m ts work.old tail (S.memory store.old) →
-        ((e : ℕ) × (result ≡ Ok e) × Searched m ts next next work.old tail work.new e (S.memory store.new)) }
+    ensures { (m : Memory) (ts : List ℕ) → Tiled m ts extent.bins extent.next → Queue m ts work.old tail (S.memory store.old) →
+        ((e : ℕ) × (result ≡ Ok e) × Searched m ts extent.next extent.next work.old tail work.new e (S.memory store.new)) }
 {
-    let places = store.places();
-    if next > MOST_CELLS {
-        return Err(HeapFault::Unlawful(Rule::Next, 0));
-    }
-    let mut at = bins;
+    let mut blocks = Blocks::of(extent)?;
     let mut end = tail;
-    while at < next {
-        let t = store.descriptor(at)?;
-        let n = cells_of(t, places)?;
-        end = mark_string(store, at, t, work, end)?;
-        at += n;
+    while let Some(block) = blocks.step(store)? {
+        end = mark_string(store, &block, work, end)?;
     }
     Ok(end)
 }

@@ -1,39 +1,44 @@
 // Moving: marked blocks go down to their new cells, and pointers with them. The work list is a table from a title's cell to its new cell.
 ghost use Rattle.std.specs.Prelude.{◌≡◌, ℕ, ◌+◌, ◌<◌, ◌≤◌, List, length, pos, Ok, slice_index, slice_index_or};
 ghost use Rattle.rules.specs.Arena.{desc, null_desc};
+ghost use Rattle.arena.specs.Titles.{count};
 ghost use Rattle.heap.specs.Walks.{Slid, Tiled, Tabled, Brought, Packed};
 ghost use Rattle.heap.specs.Moves.{Hits, Ready, Relocating, Relocated, Prepared, Shifting};
 
+use crate::blocks::{Block, Blocks};
 use crate::descriptors::is_pointer;
+use arena::extent::Extent;
 use arena::faults::{HeapFault, Rule};
-use arena::titles::{cell_of, cells_of, field_count, new_title, pointer_at, title_of};
+use arena::titles::{cell_of, field_count, new_title, pointer_at, title_of};
 use arena::{MARK, MOST_CELLS};
 use cells::{Descriptor, Store};
 
 // Writes the new cell of each marked title into the table, and gives the first cell that is free then.
-pub fn layout<S: Store>(store: &S, bins: u32, next: u32, work: &mut [u32]) -> Result<u32, HeapFault>
-    ensures { (ts : List ℕ) → Tiled (S.memory store.now) ts bins next → (S.memory store.now).figures.cells ≤ length work.old →
-        ((t : ℕ) × (result ≡ Ok t) × Tabled (S.memory store.now) ts bins next next t work.new) }
+pub fn layout<S: Store>(store: &S, extent: Extent, work: &mut [u32]) -> Result<u32, HeapFault>
+    ensures { (ts : List ℕ) → Tiled (S.memory store.now) ts extent.bins extent.next → (S.memory store.now).figures.cells ≤ length work.old →
+        ((t : ℕ) × (result ≡ Ok t) × Tabled (S.memory store.now) ts extent.bins extent.next extent.next t work.new) }
 {
-    let places = store.places();
-    if next > MOST_CELLS {
-        return Err(HeapFault::Unlawful(Rule::Next, 0));
-    }
-    let mut at = bins;
-    let mut to = bins;
-    while at < next {
-        let t = store.descriptor(at)?;
-        let n = cells_of(t, places)?;
-        if t.flags & MARK != 0 {
-            if at as usize >= work.len() {
-                return Err(HeapFault::Unlawful(Rule::Titles, at));
+    let mut blocks = Blocks::of(extent)?;
+    let mut to = extent.bins;
+    while let Some(block) = blocks.step(store)? {
+        if block.title.flags & MARK != 0 {
+            if block.at as usize >= work.len() {
+                return Err(HeapFault::Unlawful(Rule::Titles, block.at));
             }
-            work[at as usize] = to;
-            to += n;
+            work[block.at as usize] = to;
+            to += block.cells;
         }
-        at += n;
     }
     Ok(to)
+}
+
+// The new cell of a title, which the table has.
+pub fn new_cell(work: &[u32], title: u32) -> Result<u32, HeapFault>
+    ensures { title < length work.now → result ≡ Ok (slice_index work.now title) }
+{
+    work.get(title as usize)
+        .copied()
+        .ok_or(HeapFault::Unlawful(Rule::Titles, title))
 }
 
 // A value whose pointer moves by as much as its block.
@@ -44,64 +49,41 @@ pub fn forward<S: Store>(store: &S, d: Descriptor, work: &[u32]) -> Result<Descr
     if !is_pointer(d) {
         return Ok(d);
     }
-    let cell = cell_of(d)?;
-    let (title, k) = title_of(store, cell)?;
-    if title as usize >= work.len() {
-        return Err(HeapFault::Unlawful(Rule::Titles, title));
-    }
-    let to = work[title as usize];
-    if to > MOST_CELLS || k > MOST_CELLS - to {
-        return Err(HeapFault::Unlawful(Rule::Titles, title));
-    }
-    pointer_at(to + k, d.kind)
+    let (title, k) = title_of(store, cell_of(d)?)?;
+    let to = new_cell(work, title)?;
+    pointer_at(to.saturating_add(k), d.kind)
 }
 
-// Gives the n cells after a title their new values.
-pub fn relocate_block<S: Store>(
-    store: &mut S,
-    title: u32,
-    n: u32,
-    work: &[u32],
-) -> Result<(), HeapFault>
-    ensures { title + n < (S.memory store.old).figures.cells →
-        ((k : ℕ) → k < n → Ready (S.memory store.old) work.now ((S.memory store.old).descriptor (title + 1 + k))) →
-        ((result ≡ Ok tt) × Relocating (S.memory store.old) work.now title n (S.memory store.new)) }
+// Gives the fields of a block their new values.
+pub fn relocate_block<S: Store>(store: &mut S, block: &Block, work: &[u32]) -> Result<(), HeapFault>
+    ensures { block.now.at + count block.now.title < (S.memory store.old).figures.cells →
+        ((k : ℕ) → k < count block.now.title → Ready (S.memory store.old) work.now ((S.memory store.old).descriptor (block.now.at + 1 + k))) →
+        ((result ≡ Ok tt) × Relocating (S.memory store.old) work.now block.now.at (count block.now.title) (S.memory store.new)) }
 {
-    if title > MOST_CELLS || n > MOST_CELLS {
-        return Err(HeapFault::Unlawful(Rule::Titles, title));
+    let n = field_count(block.title);
+    if n > MOST_CELLS {
+        return Err(HeapFault::Unlawful(Rule::Titles, block.at));
     }
-    for k in 0..n {
-        let d = store.descriptor(title + 1 + k)?;
+    for cell in block.at + 1..block.at + 1 + n {
+        let d = store.descriptor(cell)?;
         if is_pointer(d) {
             let moved = forward(store, d, work)?;
-            store.set_descriptor(title + 1 + k, moved)?;
+            store.set_descriptor(cell, moved)?;
         }
     }
     Ok(())
 }
 
 // Gives every marked block its new values.
-pub fn relocate<S: Store>(
-    store: &mut S,
-    bins: u32,
-    next: u32,
-    work: &[u32],
-) -> Result<(), HeapFault>
-    ensures { (ts : List ℕ) → Tiled (S.memory store.old) ts bins next → Prepared (S.memory store.old) ts work.now →
-        ((result ≡ Ok tt) × Relocated (S.memory store.old) ts work.now bins next next (S.memory store.new)) }
+pub fn relocate<S: Store>(store: &mut S, extent: Extent, work: &[u32]) -> Result<(), HeapFault>
+    ensures { (ts : List ℕ) → Tiled (S.memory store.old) ts extent.bins extent.next → Prepared (S.memory store.old) ts work.now →
+        ((result ≡ Ok tt) × Relocated (S.memory store.old) ts work.now extent.bins extent.next extent.next (S.memory store.new)) }
 {
-    let places = store.places();
-    if next > MOST_CELLS {
-        return Err(HeapFault::Unlawful(Rule::Next, 0));
-    }
-    let mut at = bins;
-    while at < next {
-        let t = store.descriptor(at)?;
-        let n = cells_of(t, places)?;
-        if t.flags & MARK != 0 {
-            relocate_block(store, at, field_count(t), work)?;
+    let mut blocks = Blocks::of(extent)?;
+    while let Some(block) = blocks.step(store)? {
+        if block.title.flags & MARK != 0 {
+            relocate_block(store, &block, work)?;
         }
-        at += n;
     }
     Ok(())
 }
@@ -139,43 +121,28 @@ pub fn slide<S: Store>(store: &mut S, from: u32, to: u32, size: u32) -> Result<(
 }
 
 // Moves one block down and gives it its new title.
-pub fn bring<S: Store>(
-    store: &mut S,
-    t: Descriptor,
-    at: u32,
-    to: u32,
-    n: u32,
-) -> Result<(), HeapFault>
-    ensures { to ≤ at → 1 ≤ n → at + n ≤ (S.memory store.old).figures.cells → t.kind ≤ 65535 →
-        ((result ≡ Ok tt) × Brought (S.memory store.old) t at to n (S.memory store.new)) }
+pub fn bring<S: Store>(store: &mut S, block: &Block, to: u32) -> Result<(), HeapFault>
+    ensures { to ≤ block.now.at → 1 ≤ block.now.cells → block.now.at + block.now.cells ≤ (S.memory store.old).figures.cells → block.now.title.kind ≤ 65535 →
+        ((result ≡ Ok tt) × Brought (S.memory store.old) block.now.title block.now.at to block.now.cells (S.memory store.new)) }
 {
-    let title = new_title(t, to)?;
-    slide(store, at, to, n)?;
+    let title = new_title(block.title, to)?;
+    slide(store, block.at, to, block.cells)?;
     store.set_descriptor(to, title)?;
     Ok(())
 }
 
 // Moves every marked block down to its new cell, and takes the marks away.
-pub fn pack<S: Store>(store: &mut S, bins: u32, next: u32, work: &[u32]) -> Result<(), HeapFault>
-    ensures { (ts : List ℕ) (t : ℕ) → Tiled (S.memory store.old) ts bins next → (S.memory store.old).figures.cells ≤ length work.now →
-        Tabled (S.memory store.old) ts bins next next t work.now →
-        ((result ≡ Ok tt) × Packed (S.memory store.old) ts bins next (S.memory store.new)) }
+pub fn pack<S: Store>(store: &mut S, extent: Extent, work: &[u32]) -> Result<(), HeapFault>
+    ensures { (ts : List ℕ) (t : ℕ) → Tiled (S.memory store.old) ts extent.bins extent.next → (S.memory store.old).figures.cells ≤ length work.now →
+        Tabled (S.memory store.old) ts extent.bins extent.next extent.next t work.now →
+        ((result ≡ Ok tt) × Packed (S.memory store.old) ts extent.bins extent.next (S.memory store.new)) }
 {
-    let places = store.places();
-    if next > MOST_CELLS {
-        return Err(HeapFault::Unlawful(Rule::Next, 0));
-    }
-    let mut at = bins;
-    while at < next {
-        let t = store.descriptor(at)?;
-        let n = cells_of(t, places)?;
-        if t.flags & MARK != 0 {
-            if at as usize >= work.len() {
-                return Err(HeapFault::Unlawful(Rule::Titles, at));
-            }
-            bring(store, t, at, work[at as usize], n)?;
+    let mut blocks = Blocks::of(extent)?;
+    while let Some(block) = blocks.step(store)? {
+        if block.title.flags & MARK != 0 {
+            let to = new_cell(work, block.at)?;
+            bring(store, &block, to)?;
         }
-        at += n;
     }
     Ok(())
 }

@@ -8,6 +8,7 @@ ghost use Rattle.heap.specs.Regeneration.{Gives, Begun, Regenerated, Shown};
 use crate::marking::{drain, mark_registers, mark_strings};
 use crate::moving::{layout, move_registers, pack, relocate};
 use crate::threading::{thread_heads, thread_links};
+use arena::extent::Extent;
 use arena::faults::HeapFault;
 use cells::{Descriptor, Store};
 
@@ -15,36 +16,34 @@ use cells::{Descriptor, Store};
 fn mark_roots<S: Store>(
     store: &mut S,
     registers: &[Descriptor],
-    bins: u32,
-    next: u32,
+    extent: Extent,
     work: &mut [u32],
 ) -> Result<usize, HeapFault>
-    ensures { (m : Model) (a : Arena) → Shown m a bins next registers.now work.old (S.memory store.old) →
-        Gives (λ (n : ℕ). Begun m a (S.memory store.old) registers.now bins next work.new n (S.memory store.new)) result }
+    ensures { (m : Model) (a : Arena) → Shown m a extent.bins extent.next registers.now work.old (S.memory store.old) →
+        Gives (λ (n : ℕ). Begun m a (S.memory store.old) registers.now extent.bins extent.next work.new n (S.memory store.new)) result }
 {
     let first = mark_registers(store, registers, work, 0)?;
-    mark_strings(store, bins, next, work, first)
+    mark_strings(store, extent, work, first)
 }
 
 // Marks all that the queued roots reach, and packs it: gives the first free cell.
 fn compact<S: Store>(
     store: &mut S,
     registers: &mut [Descriptor],
-    bins: u32,
-    next: u32,
+    extent: Extent,
     work: &mut [u32],
     tail: usize,
 ) -> Result<u32, HeapFault>
-    ensures { (m : Model) (a : Arena) (before : Memory) → Begun m a before registers.old bins next work.old tail (S.memory store.old) →
-        Gives (λ (t : ℕ). Regenerated m a before bins t registers.new work.new (S.memory store.new)) result }
+    ensures { (m : Model) (a : Arena) (before : Memory) → Begun m a before registers.old extent.bins extent.next work.old tail (S.memory store.old) →
+        Gives (λ (t : ℕ). Regenerated m a before extent.bins t registers.new work.new (S.memory store.new)) result }
 {
     let _ = drain(store, work, tail)?;
-    let free = layout(store, bins, next, work)?;
+    let free = layout(store, extent, work)?;
     move_registers(store, registers, work)?;
-    relocate(store, bins, next, work)?;
-    thread_links(store, bins, next, work)?;
-    thread_heads(store, bins, work)?;
-    pack(store, bins, next, work)?;
+    relocate(store, extent, work)?;
+    thread_links(store, extent, work)?;
+    thread_heads(store, extent.bins, work)?;
+    pack(store, extent, work)?;
     Ok(free)
 }
 
@@ -52,13 +51,12 @@ fn compact<S: Store>(
 pub fn regenerate<S: Store>(
     store: &mut S,
     registers: &mut [Descriptor],
-    bins: u32,
-    next: u32,
+    extent: Extent,
     work: &mut [u32],
 ) -> Result<u32, HeapFault>
-    ensures { (m : Model) (a : Arena) → Shown m a bins next registers.old work.old (S.memory store.old) →
-        Gives (λ (t : ℕ). Regenerated m a (S.memory store.old) bins t registers.new work.new (S.memory store.new)) result }
+    ensures { (m : Model) (a : Arena) → Shown m a extent.bins extent.next registers.old work.old (S.memory store.old) →
+        Gives (λ (t : ℕ). Regenerated m a (S.memory store.old) extent.bins t registers.new work.new (S.memory store.new)) result }
 {
-    let roots = mark_roots(store, registers, bins, next, work)?;
-    compact(store, registers, bins, next, work, roots)
+    let roots = mark_roots(store, registers, extent, work)?;
+    compact(store, registers, extent, work, roots)
 }

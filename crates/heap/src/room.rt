@@ -6,6 +6,7 @@ ghost use Rattle.heap.specs.Regeneration.{Shown};
 ghost use Rattle.heap.specs.Room.{MakesRoom, FullExactly};
 
 use crate::regeneration::regenerate;
+use arena::extent::Extent;
 use arena::faults::HeapFault;
 use cells::{Descriptor, Store};
 
@@ -20,22 +21,22 @@ pub fn has_room(cells: u32, next: u32, need: u32) -> bool
 pub fn make_room<S: Store>(
     store: &mut S,
     registers: &mut [Descriptor],
-    bins: u32,
-    next: &mut u32,
+    extent: &mut Extent,
     work: &mut [u32],
     need: u32,
 ) -> Result<(), HeapFault>
-    ensures answer { (m : Model) (a : Arena) → Shown m a bins next.old registers.old work.old (S.memory store.old) →
-        MakesRoom m a (S.memory store.old) bins next.old need registers.old next.new registers.new work.new (S.memory store.new) result }
-    ensures full { (m : Model) (a : Arena) → Shown m a bins next.old registers.old work.old (S.memory store.old) →
-        FullExactly m (S.memory store.old) bins need result }
+    ensures answer { (m : Model) (a : Arena) → Shown m a extent.old.bins extent.old.next registers.old work.old (S.memory store.old) →
+        MakesRoom m a (S.memory store.old) extent.old.bins extent.old.next need registers.old extent.new.next registers.new work.new (S.memory store.new) result }
+    ensures full { (m : Model) (a : Arena) → Shown m a extent.old.bins extent.old.next registers.old work.old (S.memory store.old) →
+        FullExactly m (S.memory store.old) extent.old.bins need result }
+    ensures same_bins { extent.new.bins ≡ extent.old.bins }
 {
     let cells = store.cells();
-    if has_room(cells, *next, need) {
+    if has_room(cells, extent.next, need) {
         return Ok(());
     }
-    *next = regenerate(store, registers, bins, *next, work)?;
-    if has_room(cells, *next, need) {
+    extent.next = regenerate(store, registers, *extent, work)?;
+    if has_room(cells, extent.next, need) {
         return Ok(());
     }
     Err(HeapFault::NoRoom)

@@ -6,10 +6,13 @@ ghost use Rattle.rules.specs.Lists.{In};
 ghost use Rattle.heap.specs.Walks.{Tiled};
 ghost use Rattle.heap.specs.Threads.{Led, Linkable, Threading, Headed, Heading};
 
+use crate::blocks::Blocks;
 use crate::descriptors::{is_pointer, last_link};
+use crate::moving::new_cell;
+use arena::extent::Extent;
 use arena::faults::{HeapFault, Rule};
-use arena::titles::{cell_of, cells_of, pointer_at};
-use arena::{MARK, MOST_CELLS, STRING, STRING_FIELDS};
+use arena::titles::{cell_of, pointer_at};
+use arena::{MARK, STRING, STRING_FIELDS};
 use cells::{Descriptor, Store};
 
 // A head or a link, past the strings that are not marked, to the new cell of the next one.
@@ -17,25 +20,18 @@ pub fn relinked<S: Store>(store: &S, d: Descriptor, work: &[u32]) -> Result<Desc
     ensures { (ts : List ℕ) (d' : Desc) → Led (S.memory store.now) ts work.now d d' → result ≡ Ok d' }
 {
     let mut link = d;
-    let mut left = store.cells();
-    loop {
+    for _ in 0..=store.cells() {
         if !is_pointer(link) {
             return Ok(last_link(d));
         }
         let at = cell_of(link)?;
         let t = store.descriptor(at)?;
         if t.flags & MARK != 0 {
-            if at as usize >= work.len() {
-                return Err(HeapFault::Unlawful(Rule::Titles, at));
-            }
-            return pointer_at(work[at as usize], d.kind);
+            return pointer_at(new_cell(work, at)?, d.kind);
         }
-        if left == 0 || at > MOST_CELLS {
-            return Err(HeapFault::Unlawful(Rule::Chains, at));
-        }
-        left -= 1;
         link = store.descriptor(at + 1 + STRING_FIELDS)?;
     }
+    Err(HeapFault::Unlawful(Rule::Chains, link.value.unsigned_abs()))
 }
 
 // Gives one head or link its new value.
@@ -51,27 +47,15 @@ pub fn relink<S: Store>(store: &mut S, cell: u32, work: &[u32]) -> Result<(), He
 }
 
 // Gives the link of every marked string its new value.
-pub fn thread_links<S: Store>(
-    store: &mut S,
-    bins: u32,
-    next: u32,
-    work: &[u32],
-) -> Result<(), HeapFault>
-    ensures { (ts : List ℕ) (link : ℕ → Desc) → Tiled (S.memory store.old) ts bins next → Linkable (S.memory store.old) ts work.now link →
-        ((result ≡ Ok tt) × Threading (S.memory store.old) ts link next next (S.memory store.new)) }
+pub fn thread_links<S: Store>(store: &mut S, extent: Extent, work: &[u32]) -> Result<(), HeapFault>
+    ensures { (ts : List ℕ) (link : ℕ → Desc) → Tiled (S.memory store.old) ts extent.bins extent.next → Linkable (S.memory store.old) ts work.now link →
+        ((result ≡ Ok tt) × Threading (S.memory store.old) ts link extent.next extent.next (S.memory store.new)) }
 {
-    let places = store.places();
-    if next > MOST_CELLS {
-        return Err(HeapFault::Unlawful(Rule::Next, 0));
-    }
-    let mut at = bins;
-    while at < next {
-        let t = store.descriptor(at)?;
-        let n = cells_of(t, places)?;
-        if t.flags & MARK != 0 && t.flags & STRING != 0 {
-            relink(store, at + 1 + STRING_FIELDS, work)?;
+    let mut blocks = Blocks::of(extent)?;
+    while let Some(block) = blocks.step(store)? {
+        if block.title.flags & MARK != 0 && block.title.flags & STRING != 0 {
+            relink(store, block.at + 1 + STRING_FIELDS, work)?;
         }
-        at += n;
     }
     Ok(())
 }

@@ -1,13 +1,6 @@
 use Rattle.std.proofs.Common.{inl, inr, arith}
-use Rattle.heap.proofs.Queues.{below_now}
 use Rattle.heap.proofs.Scans.{holding}
 use Rattle.heap.proofs.marking.mark_string.Goals as goal
-
-pub returns-then-at-gt-MOST_CELLS : goal.returns-then-at-gt-MOST_CELLS
-returns-then-at-gt-MOST_CELLS g c m ts a h e =
-    let b = below_now m ts _ _ _ a c.args.at h in
-    let f = (g.met.S.Store.sound c.args.store.now).few in
-    absurd (omega arith)
 
 pub returns : goal.returns
 returns g c m ts a h e =
@@ -15,8 +8,8 @@ returns g c m ts a h e =
     elim (c.holds.ensures.yes c.if-not-holds.false) [
       | inl n ↦
           let ve = c.in_ok-value.ensures.1 in
-          (w.0, w.1, holding m ts _ _ _ a _ h _ e c.if-t-eq0.false 0 _ _ _ _ _ (omega arith) (omega arith) ve n w.2)
+          (w.0, w.1, holding m ts _ _ _ a _ h _ e c.if-block-eq0.false 0 _ _ _ _ _ (omega arith) (omega arith) ve n w.2)
       | inr n ↦
           let ve = c.in_ok-label.ensures.1 in
-          (w.0, w.1, holding m ts _ _ _ a _ h _ e c.if-t-eq0.false 1 _ _ _ _ _ (omega arith) (omega arith) ve n w.2)
+          (w.0, w.1, holding m ts _ _ _ a _ h _ e c.if-block-eq0.false 1 _ _ _ _ _ (omega arith) (omega arith) ve n w.2)
     ]

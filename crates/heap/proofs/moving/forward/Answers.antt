@@ -12,31 +12,18 @@ returns-in_err-title g c =
     record {
       plain = λ e. no_flag _ e (c.is_pointer.ensures.yes c.if-not-is_pointer.false);
       moved = λ q k h.
-          let ce = ok_same _ _ (c.in_ok-cell.ensures (q + k) h.value) in
+          let ce = ok_same _ _ (c.in_ok-cell_of.ensures (q + k) h.value) in
           ok_not_err (c.title_of.ensures q k ce (rw ce h.within) h.back) c.in_err-title.was;
     }
 
-pub returns-then-title-work : goal.returns-then-title-work
-returns-then-title-work g c =
+pub returns-in_err-to : goal.returns-in_err-to
+returns-in_err-to g c =
     record {
       plain = λ e. no_flag _ e (c.is_pointer.ensures.yes c.if-not-is_pointer.false);
       moved = λ q k h.
-          let ce = ok_same _ _ (c.in_ok-cell.ensures (q + k) h.value) in
+          let ce = ok_same _ _ (c.in_ok-cell_of.ensures (q + k) h.value) in
           let te = ap (λ (x : ℕ × ℕ). x.0) (ok_same _ _ (c.in_ok-title.ensures q k ce (rw ce h.within) h.back)) in
-          absurd (let l = h.listed in omega arith);
-    }
-
-pub returns-then-to-gt-MOST_CELLS : goal.returns-then-to-gt-MOST_CELLS
-returns-then-to-gt-MOST_CELLS g c =
-    record {
-      plain = λ e. no_flag _ e (c.is_pointer.ensures.yes c.if-not-is_pointer.false);
-      moved = λ q k h.
-          let ce = ok_same _ _ (c.in_ok-cell.ensures (q + k) h.value) in
-          let pe = ok_same _ _ (c.in_ok-title.ensures q k ce (rw ce h.within) h.back) in
-          let te = ap (λ (x : ℕ × ℕ). x.0) pe in
-          let ke = ap (λ (x : ℕ × ℕ). x.1) pe in
-          let we = ap (λ (i : ℕ). get_or c.args.work.now i 0) te in
-          absurd (let s = h.small in omega arith);
+          ok_not_err (c.new_cell.ensures (rw te h.listed)) c.in_err-to.was;
     }
 
 pub returns : goal.returns
@@ -44,10 +31,12 @@ returns g c =
     record {
       plain = λ e. no_flag _ e (c.is_pointer.ensures.yes c.if-not-is_pointer.false);
       moved = λ q k h.
-          let ce = ok_same _ _ (c.in_ok-cell.ensures (q + k) h.value) in
+          let ce = ok_same _ _ (c.in_ok-cell_of.ensures (q + k) h.value) in
           let pe = ok_same _ _ (c.in_ok-title.ensures q k ce (rw ce h.within) h.back) in
           let te = ap (λ (x : ℕ × ℕ). x.0) pe in
           let ke = ap (λ (x : ℕ × ℕ). x.1) pe in
-          let we = ap (λ (i : ℕ). get_or c.args.work.now i 0) te in
-          c.pointer_at.ensures (let s = h.small in omega arith) ∙ ap (λ (i : ℕ). Ok (desc (pos i) 16 c.args.d.kind)) (omega arith);
+          let we = ok_same _ _ (c.in_ok-to.ensures (rw te h.listed)) ∙ ap (λ (i : ℕ). get_or c.args.work.now i 0) te in
+          let s = h.small in let a = c.saturating_add.ensures in
+          let e : c.saturating_add.result ≡ get_or c.args.work.now q 0 + k = omega arith in
+          c.pointer_at.ensures (omega arith) ∙ ap (λ (i : ℕ). Ok (desc (pos i) 16 c.args.d.kind)) e;
     }

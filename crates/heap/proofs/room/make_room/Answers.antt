@@ -8,6 +8,7 @@ returns-then-has_room g c =
     record {
       answer = λ m a s. inl (record { enough = l; same_next = refl; same_registers = refl; same_memory = refl });
       full = λ m a s. full_left m a _ _ _ _ _ s _ l;
+      same_bins = refl;
     }
 
 pub returns-then-has_room-2 : goal.returns-then-has_room-2
@@ -16,9 +17,10 @@ returns-then-has_room-2 g c =
     let k = room_there _ _ _ _ _ c.has_room-2.ensures c.cells-cells.ensures c.if-has_room-2.true in
     record {
       answer = λ m a s.
-          inr (record { short = l; regenerated = c.in_ok-next.ensures m a s }, k);
+          inr (record { short = l; regenerated = c.in_ok-extent.ensures m a s }, k);
       full = λ m a s.
-          full_remade m a _ _ _ _ _ s _ _ _ _ _ (c.in_ok-next.ensures m a s) k;
+          full_remade m a _ _ _ _ _ s _ _ _ _ _ (c.in_ok-extent.ensures m a s) k;
+      same_bins = refl;
     }
 
 pub returns : goal.returns
@@ -27,7 +29,8 @@ returns g c =
     let k = room_short _ _ _ _ _ c.has_room-2.ensures c.cells-cells.ensures c.if-has_room-2.false in
     record {
       answer = λ m a s.
-          (record { short = l; regenerated = c.in_ok-next.ensures m a s }, k);
+          (record { short = l; regenerated = c.in_ok-extent.ensures m a s }, k);
       full = λ m a s.
-          full_refused m a _ _ _ _ _ s _ _ _ _ _ (c.in_ok-next.ensures m a s) k;
+          full_refused m a _ _ _ _ _ s _ _ _ _ _ (c.in_ok-extent.ensures m a s) k;
+      same_bins = refl;
     }

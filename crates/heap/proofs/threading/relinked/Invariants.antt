@@ -1,12 +1,9 @@
-use Rattle.std.proofs.Common.{ℕ, List}
+use Rattle.std.proofs.Common.{ℕ, ◌-◌, List}
 use Rattle.cells.specs.declared.Descriptor.{Descriptor}
 use Rattle.heap.specs.Threads.{Led, Leading}
 use Rattle.heap.proofs.threading.relinked.Given as goal
 
-abbrev pub invariant-loop-link : goal.invariant-loop-link
-invariant-loop-link g l =
+abbrev pub invariant-loop : goal.invariant-loop
+invariant-loop g l =
     (ts : List ℕ) (d' : Descriptor) → Led (g.S.Store.memory l.store) ts l.work l.d d' →
-    Leading (g.S.Store.memory l.store) ts l.work l.d.kind d' l.link l.left
-
-abbrev pub decreases-loop-link : goal.decreases-loop-link
-decreases-loop-link g l = l.left
+    Leading (g.S.Store.memory l.store) ts l.work l.d.kind d' l.link (l.end - l.counter)
