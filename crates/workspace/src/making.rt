@@ -51,24 +51,19 @@ impl<S: Store> Workspace<S> {
         ensures { (m : Model) (a : Arena) → Shown m a (view S.memory self.old) → (S.memory self.old.cells).figures.cells ≤ length work.old →
             RoomOf m a (view S.memory self.old) need (view S.memory self.new) result }
     {
-        let Some(extent) = self.state else {
+        let Some(mut extent) = self.state else {
             return Err(HeapFault::Unlawful(Rule::Next, 0));
         };
-        let mut first = extent.next;
         let answer = make_room(
             &mut self.cells,
             &mut self.registers,
-            extent.bins,
-            &mut first,
+            &mut extent,
             work,
             need,
         );
-        self.state = Some(Extent {
-            next: first,
-            ..extent
-        });
+        self.state = Some(extent);
         answer?;
-        Ok(first)
+        Ok(extent.next)
     }
 
     // An open workspace has this first free cell from now on.
@@ -127,13 +122,7 @@ impl<S: Store> Workspace<S> {
         let Some(extent) = self.state else {
             return Err(HeapFault::Unlawful(Rule::Next, 0));
         };
-        let next = regenerate(
-            &mut self.cells,
-            &mut self.registers,
-            extent.bins,
-            extent.next,
-            work,
-        )?;
+        let next = regenerate(&mut self.cells, &mut self.registers, extent, work)?;
         self.state = Some(Extent { next, ..extent });
         let free = self.cells.cells().saturating_sub(next);
         if free < need {
