@@ -3,7 +3,7 @@ ghost use Rattle.std.specs.Prelude.{◌≡◌};
 ghost use Rattle.cells.specs.Meaning.{Memory};
 ghost use Rattle.rules.specs.Model.{Model, Value};
 ghost use Rattle.rules.specs.Arena.{Arena, Codes, Proper};
-ghost use Rattle.arena.specs.Values.{held, Means};
+ghost use Rattle.arena.specs.Values.{held, number_held, thing_held, name_held, Means};
 
 use crate::{FIRST_TYPE, LAST_TYPE, NAME, NULL, NUMBER, POINTER, TEXT};
 use cells::Descriptor;
@@ -17,6 +17,38 @@ pub enum Held {
     Block(u32, u32),
     Name(u32),
     Other,
+}
+
+impl Held {
+    // The number, if it is one.
+    pub fn number(self) -> Option<i32>
+        ensures { result ≡ number_held self }
+    {
+        match self {
+            Held::Number(z) => Some(z),
+            _ => None,
+        }
+    }
+
+    // The title of the block or string, if it points at one.
+    pub fn thing(self) -> Option<u32>
+        ensures { result ≡ thing_held self }
+    {
+        match self {
+            Held::Text(title) | Held::Block(title, _) => Some(title),
+            _ => None,
+        }
+    }
+
+    // The cell of the field, if it is a name.
+    pub fn name(self) -> Option<u32>
+        ensures { result ≡ name_held self }
+    {
+        match self {
+            Held::Name(cell) => Some(cell),
+            _ => None,
+        }
+    }
 }
 
 // The value that a descriptor codes, by its flags and its kind.

@@ -9,7 +9,7 @@ use Rattle.rules.proofs.Room.{settle_fits, settle_full, work_long}
 use Rattle.arena.specs.declared.faults.HeapFault.{HeapFault}
 use Rattle.workspace.specs.declared.faults.Cause.TheVariants.{ShortWork}
 use Rattle.workspace.specs.declared.faults.WorkspaceFault.{WorkspaceFault}
-use Rattle.workspace.specs.declared.space.State.TheVariants.{Opened}
+use Rattle.workspace.specs.State.{Opened}
 use Rattle.workspace.specs.Shown.{View, Shown, limits, ExactWith, answered, count}
 use Rattle.workspace.specs.Shown as after
 use Rattle.workspace.specs.Rooms.{RoomOf, Regained}

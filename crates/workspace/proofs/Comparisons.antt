@@ -7,7 +7,7 @@ use Rattle.rules.specs.Arena.{null_desc}
 use Rattle.rules.specs.Compared.{Agree}
 use Rattle.rules.proofs.Compared.{compared}
 use Rattle.arena.specs.Opening.{empty_arena}
-use Rattle.workspace.specs.declared.space.State.TheVariants.{Shut}
+use Rattle.workspace.specs.State.{Shut}
 use Rattle.workspace.specs.declared.space.Workspace.{Workspace}
 use Rattle.workspace.specs.Shown.{View, view}
 use Rattle.workspace.specs.Opened.{Opens}

@@ -11,8 +11,7 @@ use Rattle.arena.specs.declared.values.Held.TheVariants as is
 use Rattle.arena.specs.Values.{held, Means}
 use Rattle.arena.proofs.Outcomes.{ok_not_err}
 use Rattle.workspace.specs.declared.faults.WorkspaceFault.{WorkspaceFault}
-use Rattle.workspace.specs.Taken.{wrong_kind}
-use Rattle.workspace.specs.Numbers.{number_taken}
+use Rattle.workspace.specs.Taken.{wrong_kind, number_taken}
 use Rattle.workspace.specs.Shown.{View, Shown, holding}
 use Rattle.workspace.proofs.Holdings.{register_means, number_in}
 

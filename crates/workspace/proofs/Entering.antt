@@ -14,18 +14,16 @@ use Rattle.arena.specs.Enters.{Takes, Fresh}
 use Rattle.arena.specs.Growth.{Grown, arena_with_text}
 use Rattle.arena.specs.declared.faults.HeapFault.{HeapFault}
 use Rattle.arena.proofs.Outcomes.{ok_not_err}
-use Rattle.workspace.specs.declared.space.State.TheVariants.{Opened}
+use Rattle.workspace.specs.State.{Opened}
 use Rattle.workspace.specs.Shown.{View, Shown, Roomed, enough, remade}
 use Rattle.workspace.specs.Rooms.{HasRoom, Grew, Grows, Found, Enters, ended}
 use Rattle.workspace.proofs.Steps.{put_shown}
+use Rattle.workspace.proofs.Rooms.{bins_same}
 use Rattle.workspace.proofs.Growing.{grew}
 
 -- The bins of an open workspace.
 pub opened_bins : (m : Model) (a : Arena) (v : View) (b n : ℕ) → Shown m a v → v.state ≡ Opened b n → b ≡ a.bins
-opened_bins m a v b n s e = same (sym e ∙ s.opened)
-  where
-    same : {c d : ℕ} → Opened b n ≡ Opened c d → b ≡ c
-    same q = cc
+opened_bins m a v b n s e = bins_same b n a.bins a.«next» (sym e ∙ s.opened)
 
 -- The cells of a string, by the count that the code has.
 pub need_is : (o : Memory) (t : Text) (places need : ℕ) → Sound o → places ≡ o.figures.places → 1 ≤ length t → length t ≤ 1024 → need ≡ string_cells_or_zero (length t) places →

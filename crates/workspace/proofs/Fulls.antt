@@ -8,7 +8,7 @@ use Rattle.arena.specs.Faults.{heap_number, heap_layer}
 use Rattle.arena.specs.declared.faults.HeapFault.{HeapFault}
 use Rattle.arena.specs.declared.faults.HeapFault.TheVariants.{Cells, NoField, BadMake, LongText, NoRoom, Unlawful}
 use Rattle.workspace.specs.declared.faults.WorkspaceFault.{WorkspaceFault}
-use Rattle.workspace.specs.declared.space.State.TheVariants.{Opened}
+use Rattle.workspace.specs.State.{Opened}
 use Rattle.workspace.specs.Reports.{report, told}
 use Rattle.workspace.specs.Shown.{View, Shown, limits, StepWith, Given, ExactWith, answered, Untouched}
 use Rattle.workspace.specs.Shown as after

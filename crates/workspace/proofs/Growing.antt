@@ -6,8 +6,8 @@ use Rattle.rules.specs.Model.{Thing, Value, Model}
 use Rattle.rules.specs.Arena.{desc, Arena, Codes, Proper}
 use Rattle.rules.specs.Calls.{put}
 use Rattle.arena.specs.Growth.{Grown}
-use Rattle.workspace.specs.declared.space.State.{State}
-use Rattle.workspace.specs.declared.space.State.TheVariants.{Opened}
+use Rattle.workspace.specs.State.{State}
+use Rattle.workspace.specs.State.{Opened}
 use Rattle.workspace.specs.Shown.{View, Shown}
 use Rattle.workspace.specs.Rooms.{HasRoom, Grew, ended}
 use Rattle.workspace.proofs.Steps.{put_shown}

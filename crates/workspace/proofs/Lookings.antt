@@ -1,5 +1,6 @@
 -- What kind and read answer.
 use Rattle.std.proofs.Common.{◌≡◌, ℕ, ◌<◌, ◌≤◌, cond, leb, List, [], ◌∷◌, ◌++◌, length, take, drop, ℤ, pos, Some, None, Ok, Err, Option, Result, sym, refl, ap, ◌∙◌, subst, ⊎_elim, arith}
+use Rattle.std.specs.Prelude.{ok_or}
 use Rattle.std.specs.List.{AllByRecursion}
 use Rattle.std.proofs.lemmas.List.{take_at, drop_at}
 use Rattle.std.proofs.lemmas.Bool.{cases_lt, le-leb, lt-leb, cond-true, cond-false}
@@ -17,11 +18,11 @@ use Rattle.arena.specs.Values.{held, Means}
 use Rattle.workspace.specs.declared.faults.Cause.TheVariants.{ShortBuffer}
 use Rattle.workspace.specs.declared.faults.Raised.{Raised}
 use Rattle.workspace.specs.declared.faults.WorkspaceFault.{WorkspaceFault}
-use Rattle.workspace.specs.declared.space.State.TheVariants.{Opened}
+use Rattle.workspace.specs.State.{Opened}
 use Rattle.workspace.specs.Reports.{raised, report}
 use Rattle.workspace.specs.Shown.{View, Shown, holding, Exact, answered, count, pair, written, Left, Leaves}
 use Rattle.workspace.proofs.Steps.{not_shut, by_giving, by_refusing}
-use Rattle.workspace.proofs.Raises.{raised_ok, raised_never}
+use Rattle.workspace.proofs.Raises.{raised_ok, raised_never, none_not_some}
 use Rattle.workspace.proofs.Holdings.{register_means, text_in}
 
 -- An open workspace.
@@ -120,6 +121,9 @@ module _ (v : View) (r title : ℕ) (before after : List ℕ) (res : Result (Opt
   out_of : {m : Model} {a : Arena} → Shown m a v → (t : Text) × (register m r ≡ text t) × ReadOut t before after res
   out_of {m} {a} s = let q = text_in s r admitted.1.0 title holds in (q.0, q.1, outs m a q.0 s.shows q.2)
 
+  abbrev pub short : WorkspaceFault
+  short = record { cause = ShortBuffer; call = Word.Read; register = r }
+
   -- The heap's faults do not come where a model is shown.
   pub exact_never : (x : Raised) (y : Answer) → Err x ≡ raised res w k → Exact v (Call.read r (length before)) y v
   exact_never x y e =
@@ -150,3 +154,12 @@ module _ (v : View) (r title : ℕ) (before after : List ℕ) (res : Result (Opt
     leaves_some =
         opened_leaves v (Ok n) before after admitted.0
         (λ m a s. let q = out_of s in let f = read_some q.0 before after res w k q.2 x n some e in past_is q.0 before after n f.1.0 f.1.1)
+
+  -- Either, by the heap's answer.
+  pub exact_read : (x : Option ℕ) (e : Ok x ≡ raised res w k) → Exact v (Call.read r (length before)) (written (ok_or x short) after) v
+  exact_read None e = exact_none None (λ n p. none_not_some refl p) e
+  exact_read (Some n) e = exact_some (Some n) n refl e
+
+  pub leaves_read : (x : Option ℕ) (e : Ok x ≡ raised res w k) → Leaves v (ok_or x short) before after
+  leaves_read None e = leaves_none None (λ n p. none_not_some refl p) e short
+  leaves_read (Some n) e = leaves_some (Some n) n refl e

@@ -14,7 +14,7 @@ use Rattle.arena.specs.declared.faults.HeapFault.TheVariants.{BadMake}
 use Rattle.workspace.specs.declared.faults.Cause.TheVariants.{ShortWork}
 use Rattle.workspace.specs.declared.faults.Raised.{Raised}
 use Rattle.workspace.specs.declared.faults.WorkspaceFault.{WorkspaceFault}
-use Rattle.workspace.specs.declared.space.State.TheVariants.{Opened}
+use Rattle.workspace.specs.State.{Opened}
 use Rattle.workspace.specs.Reports.{raised, told}
 use Rattle.workspace.specs.Shown.{View, Shown, limits, ExactWith, answered, nothing}
 use Rattle.workspace.specs.Shown as after

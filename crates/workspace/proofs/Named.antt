@@ -15,7 +15,7 @@ use Rattle.arena.specs.Values.{held}
 use Rattle.arena.specs.Stored.{Field, Stored}
 use Rattle.workspace.specs.declared.faults.Raised.{Raised}
 use Rattle.workspace.specs.declared.faults.WorkspaceFault.{WorkspaceFault}
-use Rattle.workspace.specs.declared.space.State.TheVariants.{Opened}
+use Rattle.workspace.specs.State.{Opened}
 use Rattle.workspace.specs.Reports.{report, raised, told}
 use Rattle.workspace.specs.Shown.{View, holding, Shown, Exact, answered, nothing}
 use Rattle.workspace.specs.Taken.{wrong_kind, name_taken, thing_taken}

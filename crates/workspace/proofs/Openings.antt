@@ -10,8 +10,8 @@ use Rattle.rules.specs.Calls.{ok}
 use Rattle.rules.specs.Opening.{can_open, opening}
 use Rattle.rules.specs.Arena.{desc, null_desc, Codes, as_null, Shows}
 use Rattle.arena.specs.Opening.{empty_arena}
-use Rattle.workspace.specs.declared.space.State.{State}
-use Rattle.workspace.specs.declared.space.State.TheVariants.{Shut, Opened}
+use Rattle.workspace.specs.State.{State}
+use Rattle.workspace.specs.State.{Shut, Opened}
 use Rattle.workspace.specs.Shown.{View}
 use Rattle.workspace.specs.Opened.{is_open, Opens}
 

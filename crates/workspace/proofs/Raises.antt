@@ -1,10 +1,17 @@
 -- What a heap's answer is, by the answer with the call and the register beside its fault.
-use Rattle.std.proofs.Common.{◌≡◌, ℕ, IfErr, Ok, Err, Result, sym, refl, ap, ◌∙◌}
+use Rattle.std.proofs.Common.{◌≡◌, ℕ, IfErr, Some, None, Ok, Err, Option, Result, sym, refl, ap, ◌∙◌, arith}
 use Rattle.rules.specs.declared.Word.{Word}
 use Rattle.arena.specs.declared.faults.HeapFault.{HeapFault}
 use Rattle.arena.proofs.Outcomes.{ok_same, ok_not_err}
 use Rattle.workspace.specs.declared.faults.Raised.{Raised}
 use Rattle.workspace.specs.Reports.{raised}
+
+-- An `Err` is one fault, and `None` is no `Some`.
+pub err_same : {A E : Type 0} (e f : E) → ◌≡◌ {A = Result A E} (Err e) (Err f) → e ≡ f
+err_same e f p = cc
+
+pub none_not_some : {A C : Type 0} {o : Option A} {x : A} → o ≡ None → o ≡ Some x → C
+none_not_some p q = absurd (let z : ◌≡◌ {A = ℕ} 0 1 = cc in omega arith)
 
 -- The heap answers y.
 pub raised_ok : {T : Type 0} (r : Result T HeapFault) (w : Word) (k : ℕ) (x y : T) → Ok x ≡ raised r w k → r ≡ Ok y → x ≡ y

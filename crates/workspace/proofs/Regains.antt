@@ -7,7 +7,7 @@ use Rattle.rules.specs.Model.{Thing, Model, size, Exactly}
 use Rattle.rules.specs.Arena.{Arena}
 use Rattle.rules.proofs.Reach.{exactly_total}
 use Rattle.heap.specs.Regeneration as heap
-use Rattle.workspace.specs.declared.space.State.TheVariants.{Opened}
+use Rattle.workspace.specs.State.{Opened}
 use Rattle.workspace.specs.Shown.{View}
 use Rattle.workspace.specs.Rooms.{LacksRoom, Regained}
 use Rattle.workspace.proofs.Rooms.{up, renewed}

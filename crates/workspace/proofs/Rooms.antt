@@ -1,5 +1,6 @@
 -- Room in a workspace, from room in its heap.
-use Rattle.std.proofs.Common.{◌≡◌, ℕ, ◌+◌, ◌<◌, ◌≤◌, List, length, pos, Ok, Err, sym, refl, ap, ◌∙◌, subst, inl, inr, arith}
+use Rattle.std.specs.Prelude.{unwrap_or}
+use Rattle.std.proofs.Common.{◌≡◌, ℕ, ◌+◌, ◌<◌, ◌≤◌, List, length, pos, Some, Ok, Err, sym, refl, ap, ◌∙◌, subst, inl, inr, arith}
 use Rattle.std.proofs.lemmas.List.{get_or_default}
 use Rattle.std.proofs.lemmas.Bool.{cases_lt}
 use Rattle.cells.specs.declared.Descriptor.{Descriptor}
@@ -7,19 +8,25 @@ use Rattle.cells.specs.Meaning.{Memory}
 use Rattle.rules.specs.Lists.{total}
 use Rattle.rules.specs.Model.{Model, register, size}
 use Rattle.rules.specs.Arena.{desc, null_desc, Arena, Codes}
+use Rattle.arena.specs.declared.extent.Extent.{Extent}
 use Rattle.arena.specs.declared.faults.HeapFault.{HeapFault}
 use Rattle.arena.specs.declared.faults.HeapFault.TheVariants.{Cells, NoField, BadMake, LongText, NoRoom, Unlawful}
 use Rattle.heap.specs.Regeneration as heap
 use Rattle.heap.specs.Room.{MakesRoom, FullExactly}
-use Rattle.workspace.specs.declared.space.State.TheVariants.{Opened}
+use Rattle.workspace.specs.State.{State, Opened}
 use Rattle.workspace.specs.Shown.{View, Shown, Renewed, enough, remade}
 use Rattle.workspace.specs.Rooms.{Fits, HasRoom, RoomOf}
 
-bins_same : (b n c k : ℕ) → Opened b n ≡ Opened c k → b ≡ c
-bins_same b n c k e = cc
+-- Two open workspaces that are equal have the same bins, and the same first free cell.
+pub bins_same : (b n c k : ℕ) → Opened b n ≡ Opened c k → b ≡ c
+bins_same b n c k e = ap (λ (s : State). (unwrap_or s (record { bins = b; next = n })).bins) e
 
 next_same : (b n c k : ℕ) → Opened b n ≡ Opened c k → n ≡ k
-next_same b n c k e = cc
+next_same b n c k e = ap (λ (s : State). (unwrap_or s (record { bins = b; next = n })).next) e
+
+-- An extent whose bins stay.
+pub same_extent : (e f : Extent) → f.bins ≡ e.bins → Opened e.bins f.next ≡ Some f
+same_extent e f p = ap (λ (b : ℕ). Opened b f.next) (sym p)
 
 -- What a workspace shows, its heap shows.
 pub down : (m : Model) (a : Arena) (v : View) (bins next : ℕ) (ws : List ℕ) → Shown m a v → v.state ≡ Opened bins next → v.memory.figures.cells ≤ length ws →

@@ -19,8 +19,8 @@ use Rattle.rules.proofs.Coded.{coded_in}
 use Rattle.rules.proofs.Lies.{in_lies}
 use Rattle.arena.proofs.Registers.{codes_put, shows_put}
 use Rattle.workspace.specs.declared.faults.WorkspaceFault.{WorkspaceFault}
-use Rattle.workspace.specs.declared.space.State.{State}
-use Rattle.workspace.specs.declared.space.State.TheVariants.{Shut, Opened}
+use Rattle.workspace.specs.State.{State}
+use Rattle.workspace.specs.State.{Shut, Opened}
 use Rattle.workspace.specs.Reports.{report}
 use Rattle.workspace.specs.Shown.{View, Shown, limits, Needless, stays, Exact, answered, Admits}
 

@@ -12,7 +12,7 @@ use Rattle.rules.specs.Opening.{closed}
 use Rattle.rules.proofs.Acts.{registers_fine, registers_beyond}
 use Rattle.rules.proofs.Room.{settle_fits, settle_full, work_long}
 use Rattle.workspace.specs.declared.faults.WorkspaceFault.{WorkspaceFault}
-use Rattle.workspace.specs.declared.space.State.TheVariants.{Shut, Opened}
+use Rattle.workspace.specs.State.{Shut, Opened}
 use Rattle.workspace.specs.Reports.{report}
 use Rattle.workspace.specs.Shown.{View, Shown, limits, After, full, Given, ExactWith, answered, Admits}
 use Rattle.workspace.specs.Shown as after

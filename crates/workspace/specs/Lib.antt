@@ -1,8 +1,8 @@
+pub mod State
 pub mod Reports
 pub mod Shown
 pub mod Rooms
 pub mod Opened
 pub mod Taken
-pub mod Numbers
 pub mod Logs
 pub mod Comparing

@@ -1,17 +1,15 @@
 -- What opening a workspace leaves.
-use Rattle.std.specs.Prelude.{◌≡◌, ℕ, Bool, true, false, [], replicate}
+use Rattle.std.specs.Prelude.{◌≡◌, ℕ, [], replicate, Bool, is_some}
 use Rattle.rules.specs.Model.{empty}
 use Rattle.rules.specs.Calls.{Answer, ok}
 use Rattle.rules.specs.Opening.{opening}
 use Rattle.rules.specs.Arena.{null_desc}
 use Rattle.arena.specs.Opening.{empty_arena}
-use Rattle.workspace.specs.declared.space.State.{State}
-use Rattle.workspace.specs.declared.space.State.TheVariants.{Shut, Opened}
+use Rattle.workspace.specs.State.{State}
 use Rattle.workspace.specs.Shown.{View, Shown}
 
 abbrev pub is_open : State → Bool
-is_open Shut = false
-is_open (Opened b n) = true
+is_open s = is_some s
 
 -- The answer is that of the rules. Figures and registers stay, and where all registers were null the workspace that could be
 -- opened shows the empty model.

@@ -1,5 +1,5 @@
 -- Room for some more cells in a workspace.
-use Rattle.std.specs.Prelude.{◌≡◌, ℕ, ◌+◌, ◌-◌, ◌<◌, ◌≤◌, ◌⊎◌, List, length, Ok, Err, Result}
+use Rattle.std.specs.Prelude.{◌≡◌, ℕ, ◌+◌, ◌-◌, ◌<◌, ◌≤◌, ◌⊎◌, List, length, Some, None, Ok, Err, Result}
 use Rattle.rules.specs.Lists.{In, total}
 use Rattle.rules.specs.Model.{Text, Thing, string, Value, Model, size, string_cells, Exactly}
 use Rattle.rules.specs.Arena.{Arena}
@@ -7,8 +7,8 @@ use Rattle.rules.specs.Calls.{put}
 use Rattle.arena.specs.Growth.{arena_with_text}
 use Rattle.arena.specs.declared.faults.HeapFault.{HeapFault}
 use Rattle.arena.specs.declared.faults.HeapFault.TheVariants.{Cells, NoField, BadMake, LongText, NoRoom, Unlawful}
-use Rattle.workspace.specs.declared.space.State.{State}
-use Rattle.workspace.specs.declared.space.State.TheVariants.{Shut, Opened}
+use Rattle.workspace.specs.State.{State}
+use Rattle.workspace.specs.State.{Shut, Opened}
 use Rattle.workspace.specs.Shown.{View, Shown, Renewed, Roomed}
 
 -- The bins, the reachable things and the need are within the cells, or exceed them.
@@ -87,5 +87,5 @@ Regains m a v need w (Err x) = RoomOf m a v need w (Err x)
 
 -- An open workspace whose first free cell is `next`.
 abbrev pub ended : State → ℕ → State
-ended Shut next = Shut
-ended (Opened bins old) next = Opened bins next
+ended None next = Shut
+ended (Some old) next = Opened old.bins next

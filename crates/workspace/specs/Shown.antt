@@ -13,8 +13,8 @@ use Rattle.rules.specs.declared.Layer.{Layer}
 use Rattle.rules.specs.declared.Word.{Word}
 use Rattle.workspace.specs.declared.faults.Cause.TheVariants.{Closed, NoRegister}
 use Rattle.workspace.specs.declared.faults.WorkspaceFault.{WorkspaceFault}
-use Rattle.workspace.specs.declared.space.State.{State}
-use Rattle.workspace.specs.declared.space.State.TheVariants.{Shut, Opened}
+use Rattle.workspace.specs.State.{State}
+use Rattle.workspace.specs.State.{Shut, Opened}
 use Rattle.workspace.specs.declared.space.Workspace.{Workspace}
 use Rattle.workspace.specs.Reports.{report}
 

@@ -1,28 +1,24 @@
--- The kinds of value that a call takes from a register: any other is refused there.
-use Rattle.std.specs.Prelude.{ℕ, Ok, Err, Result}
+-- What a call takes from a register: any other value is refused there.
+use Rattle.std.specs.Prelude.{ℕ, ℤ, Some, None, Ok, Err, Option, Result}
 use Rattle.rules.specs.declared.Word.{Word}
 use Rattle.arena.specs.declared.values.Held.{Held}
-use Rattle.arena.specs.declared.values.Held.TheVariants.{Null, Number, Text, Block, Name, Other}
+use Rattle.arena.specs.Values.{number_held, thing_held, name_held}
 use Rattle.workspace.specs.declared.faults.Cause.TheVariants.{WrongKind}
 use Rattle.workspace.specs.declared.faults.WorkspaceFault.{WorkspaceFault}
 
 abbrev pub wrong_kind : Word → ℕ → WorkspaceFault
 wrong_kind w r = record { cause = WrongKind; call = w; register = r }
 
--- A name, by the cell of its field.
-abbrev pub name_taken : Word → ℕ → Held → Result ℕ WorkspaceFault
-name_taken w r Null = Err (wrong_kind w r)
-name_taken w r (Number z) = Err (wrong_kind w r)
-name_taken w r (Text p) = Err (wrong_kind w r)
-name_taken w r (Block p t) = Err (wrong_kind w r)
-name_taken w r (Name p) = Ok p
-name_taken w r Other = Err (wrong_kind w r)
+abbrev pub taken : {T : Type 0} → Word → ℕ → Option T → Result T WorkspaceFault
+taken w r (Some x) = Ok x
+taken w r None = Err (wrong_kind w r)
 
--- A block or a string, by the cell of its title.
+-- A number; a block or a string, by the cell of its title; a name, by the cell of its field.
+abbrev pub number_taken : Word → ℕ → Held → Result ℤ WorkspaceFault
+number_taken w r h = taken w r (number_held h)
+
 abbrev pub thing_taken : Word → ℕ → Held → Result ℕ WorkspaceFault
-thing_taken w r Null = Err (wrong_kind w r)
-thing_taken w r (Number z) = Err (wrong_kind w r)
-thing_taken w r (Text p) = Ok p
-thing_taken w r (Block p t) = Ok p
-thing_taken w r (Name p) = Err (wrong_kind w r)
-thing_taken w r Other = Err (wrong_kind w r)
+thing_taken w r h = taken w r (thing_held h)
+
+abbrev pub name_taken : Word → ℕ → Held → Result ℕ WorkspaceFault
+name_taken w r h = taken w r (name_held h)

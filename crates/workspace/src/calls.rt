@@ -3,12 +3,11 @@ ghost use Rattle.std.specs.Prelude.{◌≡◌, true, is_err, ◌≢◌, slice_in
 ghost use Rattle.rules.specs.Arena.{desc};
 ghost use Rattle.rules.specs.Calls.{null as rule_null, number as rule_number, copy as rule_copy, divide as rule_divide, same as rule_same};
 ghost use Rattle.arena.specs.Values.{held};
-ghost use Rattle.workspace.specs.Numbers.{number_taken};
 ghost use Rattle.workspace.specs.Shown.{view, Admits, Exact, answered, nothing, count};
 
-use crate::faults::{Cause, WorkspaceFault};
-use crate::space::{State, Workspace};
-use arena::values::{Held, decoded};
+use crate::faults::{Cause, WorkspaceFault, taken};
+use crate::space::Workspace;
+use arena::values::decoded;
 use cells::{Descriptor, Store};
 use rules::{Word, quotient_of};
 
@@ -22,45 +21,16 @@ pub(crate) fn plain(value: i32, flags: u8, kind: u32) -> Descriptor
     Descriptor { value, flags, kind }
 }
 
-// 1 if the parts of two descriptors agree, else 0.
-fn agreement(a: Descriptor, b: Descriptor) -> u32
-    ensures equal { a ≡ b → result ≡ 1 }
-    ensures unequal { (a ≢ b) → result ≡ 0 }
-{
-    if a == b { 1 } else { 0 }
-}
-
-// The number that a descriptor holds; any other value is refused at its register.
-fn number_in(d: Descriptor, call: Word, register: u32) -> Result<i32, WorkspaceFault>
-    ensures { result ≡ number_taken call register (held d) }
-{
-    match decoded(d) {
-        Held::Number(z) => Ok(z),
-        _ => Err(WorkspaceFault {
-            cause: Cause::WrongKind,
-            call,
-            register,
-        }),
-    }
-}
-
-// The first register of a call, or 0.
-fn first_of(registers: &[u32]) -> u32
-    ensures { result ≡ slice_index registers.now 0 }
-{
-    if registers.len() > 0 { registers[0] } else { 0 }
-}
-
 impl<S: Store> Workspace<S> {
     // Refusals 5 and 8: the workspace is open, and the registers are there.
     pub(crate) fn admit(&self, call: Word, registers: &[u32]) -> Result<(), WorkspaceFault>
         ensures { Admits self.now.state call registers.now result }
     {
-        if let State::Shut = self.state {
+        if self.state.is_none() {
             return Err(WorkspaceFault {
                 cause: Cause::Closed,
                 call,
-                register: first_of(registers),
+                register: registers.first().copied().unwrap_or(0),
             });
         }
         for r in registers {
@@ -111,15 +81,21 @@ impl<S: Store> Workspace<S> {
         ensures kept { is_err result ≡ true → self.new ≡ self.old }
     {
         self.admit(Word::Divide, &[r, s, q])?;
-        let a = number_in(self.registers[s as usize], Word::Divide, s)?;
-        let b = number_in(self.registers[q as usize], Word::Divide, q)?;
-        let Some(z) = quotient_of(a, b) else {
-            return Err(WorkspaceFault {
-                cause: Cause::Division,
-                call: Word::Divide,
-                register: r,
-            });
-        };
+        let a = taken(
+            decoded(self.registers[s as usize]).number(),
+            Word::Divide,
+            s,
+        )?;
+        let b = taken(
+            decoded(self.registers[q as usize]).number(),
+            Word::Divide,
+            q,
+        )?;
+        let z = quotient_of(a, b).ok_or(WorkspaceFault {
+            cause: Cause::Division,
+            call: Word::Divide,
+            register: r,
+        })?;
         self.registers[r as usize] = plain(z, 0, 6);
         Ok(())
     }
@@ -129,6 +105,6 @@ impl<S: Store> Workspace<S> {
         ensures { Exact (view S.memory self.now) (rule_same r s) (answered count result) (view S.memory self.now) }
     {
         self.admit(Word::Same, &[r, s])?;
-        Ok(agreement(self.registers[r as usize], self.registers[s as usize]))
+        Ok(u32::from(self.registers[r as usize] == self.registers[s as usize]))
     }
 }

@@ -63,14 +63,8 @@ pub(crate) fn compare<A: Store + Drop, B: Store + Drop>(
 ) -> Result<(Vec<Entry>, Vec<Entry>), CompareFault>
     ensures { Compares (with_bins (A.Store.memory a).figures a_bins) (with_bins (B.Store.memory b).figures b_bins) (calls_of calls.now) result }
 {
-    let mut first = match opened(a, a_bins) {
-        Ok(w) => w,
-        Err(f) => return Err(CompareFault::First(f)),
-    };
-    let mut second = match opened(b, b_bins) {
-        Ok(w) => w,
-        Err(f) => return Err(CompareFault::Second(f)),
-    };
+    let mut first = opened(a, a_bins).map_err(CompareFault::First)?;
+    let mut second = opened(b, b_bins).map_err(CompareFault::Second)?;
     let x = first.log(heap, calls)?;
     let y = second.log(heap, calls)?;
     Ok((x, y))

@@ -1,5 +1,6 @@
 // Why a workspace refuses a call. A store's fault is carried whole inside the heap's, and that inside the workspace's.
 ghost use Rattle.std.specs.Prelude.{◌≡◌};
+ghost use Rattle.workspace.specs.Taken.{wrong_kind, taken};
 ghost use Rattle.workspace.specs.Reports.{cause_number, cause_layer, cause_place, raised, told};
 
 use arena::faults::HeapFault;
@@ -66,6 +67,28 @@ impl WorkspaceFault {
     }
 }
 
+// A value that the call does not take.
+pub(crate) fn wrong_kind(call: Word, register: u32) -> WorkspaceFault
+    ensures { result ≡ wrong_kind call register }
+{
+    WorkspaceFault {
+        cause: Cause::WrongKind,
+        call,
+        register,
+    }
+}
+
+// What a call takes from a register: any other value is refused there.
+pub(crate) fn taken<T: Drop>(
+    found: Option<T>,
+    call: Word,
+    register: u32,
+) -> Result<T, WorkspaceFault>
+    ensures { result ≡ taken call register found }
+{
+    found.ok_or(wrong_kind(call, register))
+}
+
 // A heap's fault on its way up, with the call and the register that it is reported at.
 #[derive(Clone, Copy, PartialEq, Eq, Debug)]
 pub struct Raised {
@@ -90,12 +113,9 @@ impl From<Raised> for WorkspaceFault {
 pub(crate) fn in_call<T>(r: Result<T, HeapFault>, call: Word, register: u32) -> Result<T, Raised>
     ensures { result ≡ raised r call register }
 {
-    match r {
-        Ok(x) => Ok(x),
-        Err(fault) => Err(Raised {
-            fault,
-            call,
-            register,
-        }),
-    }
+    r.map_err(|fault| Raised {
+        fault,
+        call,
+        register,
+    })
 }

@@ -3,27 +3,13 @@ ghost use Rattle.std.specs.Prelude.{◌≡◌, length, pos};
 ghost use Rattle.rules.specs.Calls.{kind as rule_kind, read as rule_read};
 ghost use Rattle.workspace.specs.Shown.{view, Exact, answered, pair, written, Leaves};
 
-use crate::faults::{Cause, WorkspaceFault, in_call};
+use crate::faults::{Cause, WorkspaceFault, in_call, wrong_kind};
 use crate::space::Workspace;
 use arena::fields::{count_at, length_at, named};
 use arena::texts::read_text;
 use arena::values::{Held, decoded};
 use cells::Store;
 use rules::Word;
-
-// A count as a wide number.
-fn counted(n: u32) -> i64
-    ensures { result ≡ pos n }
-{
-    n as i64
-}
-
-// A number as a wide number.
-fn widened(z: i32) -> i64
-    ensures { result ≡ z }
-{
-    z as i64
-}
 
 impl<S: Store> Workspace<S> {
     // T of what register r holds, then its length, number, field count or field number.
@@ -33,24 +19,20 @@ impl<S: Store> Workspace<S> {
         self.admit(Word::Kind, &[r])?;
         match decoded(self.registers[r as usize]) {
             Held::Null => Ok((1, 0)),
-            Held::Number(z) => Ok((6, widened(z))),
+            Held::Number(z) => Ok((6, i64::from(z))),
             Held::Text(title) => {
                 let length = in_call(length_at(&self.cells, title), Word::Kind, r)?;
-                Ok((1, counted(length)))
+                Ok((1, i64::from(length)))
             }
             Held::Block(title, t) => {
                 let fields = in_call(count_at(&self.cells, title), Word::Kind, r)?;
-                Ok((t, counted(fields)))
+                Ok((t, i64::from(fields)))
             }
             Held::Name(cell) => {
                 let (_, k) = in_call(named(&self.cells, cell), Word::Kind, r)?;
-                Ok((9, counted(k)))
+                Ok((9, i64::from(k)))
             }
-            Held::Other => Err(WorkspaceFault {
-                cause: Cause::WrongKind,
-                call: Word::Kind,
-                register: r,
-            }),
+            Held::Other => Err(wrong_kind(Word::Kind, r)),
         }
     }
 
@@ -64,20 +46,13 @@ impl<S: Store> Workspace<S> {
             Held::Null => Ok(0),
             Held::Text(title) => {
                 let count = in_call(read_text(&self.cells, title, buffer), Word::Read, r)?;
-                let Some(n) = count else {
-                    return Err(WorkspaceFault {
-                        cause: Cause::ShortBuffer,
-                        call: Word::Read,
-                        register: r,
-                    });
-                };
-                Ok(n)
+                count.ok_or(WorkspaceFault {
+                    cause: Cause::ShortBuffer,
+                    call: Word::Read,
+                    register: r,
+                })
             }
-            _ => Err(WorkspaceFault {
-                cause: Cause::WrongKind,
-                call: Word::Read,
-                register: r,
-            }),
+            _ => Err(wrong_kind(Word::Read, r)),
         }
     }
 }

@@ -12,10 +12,11 @@ ghost use Rattle.workspace.specs.Shown.{view, Shown, ExactWith, Untouched, answe
 
 use crate::calls::plain;
 use crate::faults::{Cause, WorkspaceFault, in_call};
-use crate::space::{State, Workspace};
+use crate::space::Workspace;
 use arena::LONGEST_TEXT;
 use arena::blocks::{fit as fit_block, make_block};
 use arena::entering::enter_text;
+use arena::extent::Extent;
 use arena::faults::{HeapFault, Rule};
 use arena::strings::find;
 use arena::texts::fit as fit_text;
@@ -50,29 +51,27 @@ impl<S: Store> Workspace<S> {
         ensures { (m : Model) (a : Arena) → Shown m a (view S.memory self.old) → (S.memory self.old.cells).figures.cells ≤ length work.old →
             RoomOf m a (view S.memory self.old) need (view S.memory self.new) result }
     {
-        let State::Opened(bins, next) = self.state else {
+        let Some(mut extent) = self.state else {
             return Err(HeapFault::Unlawful(Rule::Next, 0));
         };
-        let mut first = next;
         let answer = make_room(
             &mut self.cells,
             &mut self.registers,
-            bins,
-            &mut first,
+            &mut extent,
             work,
             need,
         );
-        self.state = State::Opened(bins, first);
+        self.state = Some(extent);
         answer?;
-        Ok(first)
+        Ok(extent.next)
     }
 
     // An open workspace has this first free cell from now on.
     pub(crate) fn end_at(&mut self, next: u32)
         ensures { self.new ≡ record { cells = self.old.cells; registers = self.old.registers; state = ended self.old.state next } }
     {
-        if let State::Opened(bins, _) = self.state {
-            self.state = State::Opened(bins, next);
+        if let Some(extent) = self.state {
+            self.state = Some(Extent { next, ..extent });
         }
     }
 
@@ -120,12 +119,12 @@ impl<S: Store> Workspace<S> {
         ensures { (m : Model) (a : Arena) → Shown m a (view S.memory self.old) → (S.memory self.old.cells).figures.cells ≤ length work.old →
             Regains m a (view S.memory self.old) need (view S.memory self.new) result }
     {
-        let State::Opened(bins, next) = self.state else {
+        let Some(extent) = self.state else {
             return Err(HeapFault::Unlawful(Rule::Next, 0));
         };
-        let first = regenerate(&mut self.cells, &mut self.registers, bins, next, work)?;
-        self.state = State::Opened(bins, first);
-        let free = self.cells.cells().saturating_sub(first);
+        let next = regenerate(&mut self.cells, &mut self.registers, extent, work)?;
+        self.state = Some(Extent { next, ..extent });
+        let free = self.cells.cells().saturating_sub(next);
         if free < need {
             return Err(HeapFault::NoRoom);
         }
@@ -182,17 +181,17 @@ impl<S: Store> Workspace<S> {
             1 ≤ length text.now → length text.now ≤ 1024 → Takes (S.memory self.old.cells) text.now →
             Enters m a (view S.memory self.old) r text.now (view S.memory self.new) result }
     {
-        let State::Opened(bins, _) = self.state else {
+        let Some(extent) = self.state else {
             return Err(HeapFault::Unlawful(Rule::Next, 0));
         };
-        let found = find(&self.cells, bins, text)?;
+        let found = find(&self.cells, extent.bins, text)?;
         match found {
             Some(title) => {
                 let string = pointer_at(title, 1)?;
                 self.registers[r as usize] = string;
                 Ok(())
             }
-            None => self.add_text(r, bins, text, work),
+            None => self.add_text(r, extent.bins, text, work),
         }
     }
 
@@ -209,7 +208,7 @@ impl<S: Store> Workspace<S> {
         self.admit(Word::Text, &[r])?;
         in_call(fit_text(&self.cells, bytes), Word::Text, r)?;
         self.take_list(Word::Text, r, work)?;
-        if bytes.len() == 0 {
+        if bytes.is_empty() {
             self.registers[r as usize] = plain(0, 0, 1);
             return Ok(());
         }

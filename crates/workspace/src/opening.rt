@@ -1,13 +1,14 @@
 // Making a workspace, and opening it.
 ghost use Rattle.std.specs.Prelude.{◌≡◌, true, replicate, is_err};
 ghost use Rattle.rules.specs.Arena.{null_desc};
-ghost use Rattle.workspace.specs.declared.space.State.TheVariants.{Shut};
+ghost use Rattle.workspace.specs.State.{Shut};
 ghost use Rattle.workspace.specs.Shown.{view, answered, nothing};
 ghost use Rattle.workspace.specs.Opened.{Opens};
 
 use crate::calls::plain;
 use crate::faults::{Cause, WorkspaceFault, in_call};
-use crate::space::{State, Workspace};
+use crate::space::Workspace;
+use arena::extent::Extent;
 use arena::opening::open_arena;
 use cells::Store;
 use rules::Word;
@@ -34,7 +35,7 @@ impl<S: Store> Workspace<S> {
         Workspace {
             cells: store,
             registers: [plain(0, 0, 1); 32],
-            state: State::Shut,
+            state: None,
         }
     }
 
@@ -43,14 +44,14 @@ impl<S: Store> Workspace<S> {
         ensures opens { Opens (view S.memory self.old) bins (answered nothing result) (view S.memory self.new) }
         ensures kept { is_err result ≡ true → self.new ≡ self.old }
     {
-        if let State::Opened(_, _) = self.state {
+        if self.state.is_some() {
             return Err(not_opened(Cause::AlreadyOpen));
         }
         if bins == 0 || bins > MOST_BINS || bins > self.cells.cells() {
             return Err(not_opened(Cause::BadBins));
         }
         let next = in_call(open_arena(&mut self.cells, bins), Word::Open, 0)?;
-        self.state = State::Opened(bins, next);
+        self.state = Some(Extent { bins, next });
         Ok(())
     }
 }

@@ -1,9 +1,9 @@
 // Lists of calls, and what a workspace answers to each.
-ghost use Rattle.std.specs.Prelude.{◌≡◌, ◌≤◌, length, IfOk};
+ghost use Rattle.std.specs.Prelude.{◌≡◌, ◌≤◌, List, [], ℤ, length, IfOk};
 ghost use Rattle.rules.specs.Model.{Model};
 ghost use Rattle.rules.specs.Arena.{Arena};
 ghost use Rattle.rules.specs.Requests.{meant};
-ghost use Rattle.rules.specs.Calls.{read as rule_read};
+ghost use Rattle.rules.specs.Calls.{read as rule_read, ok};
 ghost use Rattle.workspace.specs.Logs.{Performs, entry, entries, calls_of, Logged};
 ghost use Rattle.workspace.specs.Shown.{view, Shown, Exact, answered, nothing, count, pair};
 
@@ -23,32 +23,45 @@ pub enum Entry {
     Refused(WorkspaceFault),
 }
 
-// The entry of a call that answers no number.
-fn done(r: Result<(), WorkspaceFault>) -> Entry
-    ensures { entry result ≡ answered nothing r }
-{
-    match r {
-        Ok(()) => Entry::Done,
-        Err(f) => Entry::Refused(f),
+// What a call answers, as an entry of a log.
+pub(crate) trait Answer: Drop {
+    ghost numbers: { Self → List ℤ };
+
+    fn entry(self) -> Entry
+        ensures { entry result ≡ ok (numbers self) [] };
+}
+
+impl Answer for () {
+    ghost numbers = { nothing };
+
+    fn entry(self) -> Entry {
+        Entry::Done
     }
 }
 
-// The entry of a call that answers one number.
-fn counted(r: Result<u32, WorkspaceFault>) -> Entry
-    ensures { entry result ≡ answered count r }
-{
-    match r {
-        Ok(n) => Entry::Count(n),
-        Err(f) => Entry::Refused(f),
+impl Answer for u32 {
+    ghost numbers = { count };
+
+    fn entry(self) -> Entry {
+        Entry::Count(self)
     }
 }
 
-// The entry of a call that answers two numbers.
-fn paired(r: Result<(u32, i64), WorkspaceFault>) -> Entry
-    ensures { entry result ≡ answered pair r }
+impl Answer for (u32, i64) {
+    ghost numbers = { pair };
+
+    fn entry(self) -> Entry {
+        let (t, z) = self;
+        Entry::Pair(t, z)
+    }
+}
+
+// The entry of a call: what it answers, or its refusal.
+fn logged<A: Answer>(r: Result<A, WorkspaceFault>) -> Entry
+    ensures { entry result ≡ answered A.numbers r }
 {
     match r {
-        Ok((t, z)) => Entry::Pair(t, z),
+        Ok(answer) => answer.entry(),
         Err(f) => Entry::Refused(f),
     }
 }
@@ -78,19 +91,19 @@ impl<S: Store> Workspace<S> {
         ensures { IfOk result (λ e. Performs (view S.memory self.old) (length work.old) (meant request.entry) (entry e) (view S.memory self.new)) }
     {
         match request {
-            Request::Null(r) => Ok(done(self.null(r))),
-            Request::Number(r, i) => Ok(done(self.number(r, i))),
-            Request::Copy(r, s) => Ok(done(self.copy(r, s))),
-            Request::Make(r, n, t) => Ok(done(self.make(r, n, t, work))),
-            Request::Text(r, bytes) => Ok(done(self.text(r, bytes, work))),
-            Request::Name(r, s, k) => Ok(done(self.name(r, s, k))),
-            Request::Fetch(r, s) => Ok(done(self.fetch(r, s))),
-            Request::Store(r, s) => Ok(done(self.store(r, s))),
-            Request::Divide(r, s, q) => Ok(done(self.divide(r, s, q))),
-            Request::Kind(r) => Ok(paired(self.kind(r))),
+            Request::Null(r) => Ok(logged(self.null(r))),
+            Request::Number(r, i) => Ok(logged(self.number(r, i))),
+            Request::Copy(r, s) => Ok(logged(self.copy(r, s))),
+            Request::Make(r, n, t) => Ok(logged(self.make(r, n, t, work))),
+            Request::Text(r, bytes) => Ok(logged(self.text(r, bytes, work))),
+            Request::Name(r, s, k) => Ok(logged(self.name(r, s, k))),
+            Request::Fetch(r, s) => Ok(logged(self.fetch(r, s))),
+            Request::Store(r, s) => Ok(logged(self.store(r, s))),
+            Request::Divide(r, s, q) => Ok(logged(self.divide(r, s, q))),
+            Request::Kind(r) => Ok(logged(self.kind(r))),
             Request::Read(r, n) => self.read_entry(heap, r, n),
-            Request::Same(r, s) => Ok(counted(self.same(r, s))),
-            Request::Collect(n) => Ok(counted(self.collect(n, work))),
+            Request::Same(r, s) => Ok(logged(self.same(r, s))),
+            Request::Collect(n) => Ok(logged(self.collect(n, work))),
         }
     }
 

@@ -26,9 +26,9 @@ returns-in-Number g c =
     let ok = c.in_ok-admit.ensures in
     let z = c.in-Number.z in
     let fz : SFits w32 z = search rules in
-    let fy : SFits w64 c.widened.result = search rules in
-    let wide = to_z-of_z w64 c.widened.result fy ∙ c.widened.ensures ∙ to_z-of_z w32 z fz in
-    kind_gives (view g.S.Store.memory c.args.self.now) c.args.r 6 (to_z w64 (of_z w64 c.widened.result)) ok
+    let fy : SFits w64 c.from.result = search rules in
+    let wide = to_z-of_z w64 c.from.result fy ∙ c.from.ensures ∙ to_z-of_z w32 z fz in
+    kind_gives (view g.S.Store.memory c.args.self.now) c.args.r 6 (to_z w64 (of_z w64 c.from.result)) ok
     (λ m a s. kind_is m c.args.r (Value.number z) 6 z _ (number_in s c.args.r ok.1.0 z c.in-Number.ensures.flags) refl wide)
 
 pub returns-in_err-length-in-Text : goal.returns-in_err-length-in-Text
@@ -58,34 +58,34 @@ returns-in_err-k-in-Name g c =
 pub returns-in_ok-length-in-Text : goal.returns-in_ok-length-in-Text
 returns-in_ok-length-in-Text g c =
     let ok = c.in_ok-admit.ensures in
-    let fy : SFits w64 c.counted.result = search rules in
-    let z = to_z w64 (of_z w64 c.counted.result) in
+    let fy : SFits w64 c.from-in-Text.result = search rules in
+    let z = to_z w64 (of_z w64 c.from-in-Text.result) in
     kind_gives (view g.S.Store.memory c.args.self.now) c.args.r 1 z ok
     (λ m a s. let k = text_in s c.args.r ok.1.0 c.in-Text.title c.in-Text.ensures.flags in
     let n = raised_ok c.length_at.result Word.Kind c.args.r c.in_ok-length-in-Text.length (length k.0) c.in_ok-length-in-Text.ensures (c.length_at.ensures m a k.0 s.shows k.2) in
-    kind_counts m c.args.r (Value.text k.0) 1 c.in_ok-length-in-Text.length (length k.0) c.counted.result z k.1 refl n c.counted.ensures (to_z-of_z w64 c.counted.result fy))
+    kind_counts m c.args.r (Value.text k.0) 1 c.in_ok-length-in-Text.length (length k.0) c.from-in-Text.result z k.1 refl n c.from-in-Text.ensures (to_z-of_z w64 c.from-in-Text.result fy))
 
 pub returns-in_ok-fields-in-Block : goal.returns-in_ok-fields-in-Block
 returns-in_ok-fields-in-Block g c =
     let ok = c.in_ok-admit.ensures in
     let t = c.in-Block.t in
-    let fy : SFits w64 c.counted-in-Block.result = search rules in
-    let z = to_z w64 (of_z w64 c.counted-in-Block.result) in
+    let fy : SFits w64 c.from-in-Block.result = search rules in
+    let z = to_z w64 (of_z w64 c.from-in-Block.result) in
     kind_gives (view g.S.Store.memory c.args.self.now) c.args.r t z ok
     (λ m a s. let k = block_in s c.args.r ok.1.0 c.in-Block.title t c.in-Block.ensures.flags in
     let n = raised_ok c.count_at.result Word.Kind c.args.r c.in_ok-fields-in-Block.fields (fields m (block k.0)) c.in_ok-fields-in-Block.ensures (c.count_at.ensures m a (block k.0) s.shows k.2) in
-    kind_counts m c.args.r (Value.to k.0 t) t c.in_ok-fields-in-Block.fields (fields m (block k.0)) c.counted-in-Block.result z k.1 refl n c.counted-in-Block.ensures (to_z-of_z w64 c.counted-in-Block.result fy))
+    kind_counts m c.args.r (Value.to k.0 t) t c.in_ok-fields-in-Block.fields (fields m (block k.0)) c.from-in-Block.result z k.1 refl n c.from-in-Block.ensures (to_z-of_z w64 c.from-in-Block.result fy))
 
 pub returns-in_ok-k-in-Name : goal.returns-in_ok-k-in-Name
 returns-in_ok-k-in-Name g c =
     let ok = c.in_ok-admit.ensures in
-    let fy : SFits w64 c.counted-in-Name.result = search rules in
-    let z = to_z w64 (of_z w64 c.counted-in-Name.result) in
+    let fy : SFits w64 c.from-in-Name.result = search rules in
+    let z = to_z w64 (of_z w64 c.from-in-Name.result) in
     kind_gives (view g.S.Store.memory c.args.self.now) c.args.r 9 z ok
     (λ m a s. let k = name_in s c.args.r ok.1.0 c.in-Name.cell c.in-Name.ensures.flags in
     let n = ap (λ (x : ℕ × ℕ). x.1)
     (raised_ok c.named.result Word.Kind c.args.r (c.in_ok-k-in-Name.field-0-0, c.in_ok-k-in-Name.k) (k.1.2.title, k.1.0) c.in_ok-k-in-Name.ensures (c.named.ensures m a k.0 k.1.0 k.1.2)) in
-    kind_counts m c.args.r (Value.name k.0 k.1.0) 9 c.in_ok-k-in-Name.k k.1.0 c.counted-in-Name.result z k.1.1 refl n c.counted-in-Name.ensures (to_z-of_z w64 c.counted-in-Name.result fy))
+    kind_counts m c.args.r (Value.name k.0 k.1.0) 9 c.in_ok-k-in-Name.k k.1.0 c.from-in-Name.result z k.1.1 refl n c.from-in-Name.ensures (to_z-of_z w64 c.from-in-Name.result fy))
 
 pub returns-in-Other : goal.returns-in-Other
 returns-in-Other g c =

@@ -1,7 +1,10 @@
-use Rattle.std.proofs.Common.{[], ◌∷◌, refl, rules}
+use Rattle.std.proofs.Common.{[], ◌∷◌, refl, ap, ◌∙◌, rules}
+use Rattle.rules.specs.declared.Word.{Word}
 use Rattle.rules.specs.Calls.{Call}
+use Rattle.arena.specs.Values.{thing_held}
 use Rattle.workspace.specs.Reports.{told}
 use Rattle.workspace.specs.Shown.{view, nothing}
+use Rattle.workspace.specs.Taken.{taken}
 use Rattle.workspace.proofs.Steps.{at_door, passed}
 use Rattle.workspace.proofs.Named.{name_unfit, name_fails, name_gives}
 use Rattle.workspace.proofs.space.Workspace.name.Goals as goal
@@ -18,7 +21,7 @@ pub returns-in_err-title : goal.returns-in_err-title
 returns-in_err-title g c =
     record {
       exact = name_unfit (view g.S.Store.memory c.args.self.now) c.args.r c.args.s c.args.k c.in_ok-admit.ensures
-          c.from_residual-in_err-title.result c.in_err-title.field-0.0 c.in_err-title.ensures
+          c.from_residual-in_err-title.result c.in_err-title.field-0.0 (c.in_err-title.ensures ∙ ap (taken Word.Name c.args.s) (c.thing.ensures ∙ ap thing_held c.decoded.ensures.flags))
           (passed c.from_residual-in_err-title.result _ _ c.from_residual-in_err-title.ensures.1 refl);
       kept = λ _. refl;
     }
@@ -27,7 +30,7 @@ pub returns-in_err-d : goal.returns-in_err-d
 returns-in_err-d g c =
     record {
       exact = name_fails (view g.S.Store.memory c.args.self.now) c.args.r c.args.s c.args.k c.in_ok-admit.ensures
-          c.in_ok-title.title c.in_ok-title.ensures c.name_of.result (record { there = c.name_of.ensures.there; absent = c.name_of.ensures.absent })
+          c.in_ok-title.title (c.in_ok-title.ensures ∙ ap (taken Word.Name c.args.s) (c.thing.ensures ∙ ap thing_held c.decoded.ensures.flags)) c.name_of.result (record { there = c.name_of.ensures.there; absent = c.name_of.ensures.absent })
           c.from_residual-in_err-d.result c.in_err-d.field-0.0 c.in_err-d.ensures
           (passed c.from_residual-in_err-d.result (told c.in_err-d.field-0.0) _ c.from_residual-in_err-d.ensures.1 refl);
       kept = λ _. refl;
@@ -37,7 +40,7 @@ pub returns : goal.returns
 returns g c =
     record {
       exact = name_gives (view g.S.Store.memory c.args.self.now) c.args.r c.args.s c.args.k c.in_ok-admit.ensures
-          c.in_ok-title.title c.in_ok-title.ensures c.name_of.result (record { there = c.name_of.ensures.there; absent = c.name_of.ensures.absent })
+          c.in_ok-title.title (c.in_ok-title.ensures ∙ ap (taken Word.Name c.args.s) (c.thing.ensures ∙ ap thing_held c.decoded.ensures.flags)) c.name_of.result (record { there = c.name_of.ensures.there; absent = c.name_of.ensures.absent })
           c.in_ok-d.d c.in_ok-d.ensures;
       kept = search rules;
     }

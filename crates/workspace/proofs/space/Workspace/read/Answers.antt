@@ -1,12 +1,11 @@
-use Rattle.std.proofs.Common.{[], ◌∷◌, length, pos, Ok, Err, refl, ap}
+use Rattle.std.proofs.Common.{[], ◌∷◌, length, pos, Ok, Err, sym, refl, ap, subst}
 use Rattle.rules.specs.declared.Word.{Word}
 use Rattle.rules.specs.Calls.{Call, registers_then}
-use Rattle.workspace.specs.declared.faults.Cause.TheVariants.{ShortBuffer}
-use Rattle.workspace.specs.Shown.{view, count, written}
+use Rattle.workspace.specs.Shown.{view, Exact, Leaves, count, written}
 use Rattle.workspace.specs.Taken.{wrong_kind}
 use Rattle.workspace.proofs.Steps.{at_door, by_giving, by_refusing, passed}
 use Rattle.workspace.proofs.Holdings.{null_in}
-use Rattle.workspace.proofs.Lookings.{read_null, read_unfit, written_refused, refused_leaves, opened_leaves, exact_never, leaves_never, exact_none, leaves_none, exact_some, leaves_some}
+use Rattle.workspace.proofs.Lookings.{read_null, read_unfit, written_refused, refused_leaves, opened_leaves, exact_never, leaves_never, exact_read, leaves_read}
 use Rattle.workspace.proofs.space.Workspace.read.Goals as goal
 
 pub returns-in_err-admit : goal.returns-in_err-admit
@@ -48,8 +47,8 @@ returns-in_err-count-in-Text g c =
           c.from_residual-in_err-count-in-Text.result c.in_err-count-in-Text.ensures;
     }
 
-pub returns-in_default-count : goal.returns-in_default-count
-returns-in_default-count g c =
+pub returns-in_ok-count-in-Text : goal.returns-in_ok-count-in-Text
+returns-in_ok-count-in-Text g c =
     let v = view g.S.Store.memory c.args.self.now in
     let r = c.args.r in
     let before = c.args.buffer.now in
@@ -57,10 +56,10 @@ returns-in_default-count g c =
     let ok = c.in_ok-admit.ensures in
     let x = c.in_ok-count-in-Text.count in
     record {
-      exact = exact_none v r c.in-Text.title before after c.read_text.result Word.Read r ok c.in-Text.ensures.flags c.read_text.ensures x
-          c.in_default-count.not-Some c.in_ok-count-in-Text.ensures;
-      rest = leaves_none v r c.in-Text.title before after c.read_text.result Word.Read r ok c.in-Text.ensures.flags c.read_text.ensures x
-          c.in_default-count.not-Some c.in_ok-count-in-Text.ensures (record { cause = ShortBuffer; call = Word.Read; register = r });
+      exact = subst (λ y. Exact v (Call.read r (length before)) (written y after) v) (sym c.ok_or.ensures.value)
+          (exact_read v r c.in-Text.title before after c.read_text.result Word.Read r ok c.in-Text.ensures.flags c.read_text.ensures x c.in_ok-count-in-Text.ensures);
+      rest = subst (λ y. Leaves v y before after) (sym c.ok_or.ensures.value)
+          (leaves_read v r c.in-Text.title before after c.read_text.result Word.Read r ok c.in-Text.ensures.flags c.read_text.ensures x c.in_ok-count-in-Text.ensures);
     }
 
 pub returns-in_default : goal.returns-in_default
@@ -71,22 +70,7 @@ returns-in_default g c =
     let f = wrong_kind Word.Read r in
     let ok = c.in_ok-admit.ensures in
     record {
-      exact = by_refusing v (Call.read r (length buffer)) (r ∷ []) count (Err f) f ok refl tt refl
+      exact = by_refusing v (Call.read r (length buffer)) (r ∷ []) count (Err c.wrong_kind.result) f ok (ap Err c.wrong_kind.ensures) tt refl
           (λ m a s l u h. ap (registers_then (r ∷ [])) (read_unfit s r (length buffer) ok.1.0 c.decoded.result c.decoded.ensures.flags c.in_default.not-Null c.in_default.not-Text));
-      rest = refused_leaves v (Err f) f buffer refl;
-    }
-
-pub returns-in-Some : goal.returns-in-Some
-returns-in-Some g c =
-    let v = view g.S.Store.memory c.args.self.now in
-    let r = c.args.r in
-    let before = c.args.buffer.now in
-    let after = c.read_text.new.buffer in
-    let ok = c.in_ok-admit.ensures in
-    let x = c.in_ok-count-in-Text.count in
-    record {
-      exact = exact_some v r c.in-Text.title before after c.read_text.result Word.Read r ok c.in-Text.ensures.flags c.read_text.ensures x c.in-Some.n c.in-Some.is
-          c.in_ok-count-in-Text.ensures;
-      rest = leaves_some v r c.in-Text.title before after c.read_text.result Word.Read r ok c.in-Text.ensures.flags c.read_text.ensures x c.in-Some.n c.in-Some.is
-          c.in_ok-count-in-Text.ensures;
+      rest = refused_leaves v (Err c.wrong_kind.result) f buffer (ap Err c.wrong_kind.ensures);
     }

@@ -1,25 +1,30 @@
 use Rattle.std.proofs.Common.{sym, refl, subst}
-use Rattle.workspace.specs.declared.space.State.TheVariants.{Opened}
+use Rattle.workspace.specs.State.{State, Opened}
 use Rattle.workspace.specs.Shown.{View, view}
-use Rattle.workspace.specs.Rooms.{RoomOf}
+use Rattle.workspace.specs.Rooms.{RoomOf, HasRoom}
 use Rattle.workspace.proofs.Steps.{passed}
-use Rattle.workspace.proofs.Rooms.{down, room_ok, room_err}
+use Rattle.workspace.proofs.Rooms.{down, room_ok, room_err, same_extent}
 use Rattle.workspace.proofs.space.Workspace.room.Goals as goal
 
 pub returns-in_err-answer : goal.returns-in_err-answer
 returns-in_err-answer g c m a s long =
     let v = view g.S.Store.memory c.args.self.now in
     let l = c.make_room-answer.new in
-    let shown = down m a v c.in-Opened.bins c.in-Opened.next c.args.work.now s c.in-Opened.is long in
-    let w : View = record { memory = g.S.Store.memory l.store; registers = l.registers; state = Opened c.in-Opened.bins l.next } in
-    subst (λ r. RoomOf m a v c.args.need w r) (sym (passed c.from_residual.result _ _ c.from_residual.ensures.1 refl))
-    (room_err m a v c.in-Opened.bins c.in-Opened.next c.args.need s c.in-Opened.is l.next l.registers l.work (g.S.Store.memory l.store) c.in_err-answer.field-0.0
-    (c.in_err-answer.ensures.answer m a shown) (c.in_err-answer.ensures.full m a shown))
+    let e = c.in-Some.extent in
+    let shown = down m a v e.bins e.next c.args.work.now s c.in-Some.is long in
+    let after : State → View = λ t. record { memory = g.S.Store.memory l.store; registers = l.registers; state = t } in
+    subst (λ t. RoomOf m a v c.args.need (after t) c.from_residual.result) (same_extent e l.extent c.make_room-answer.ensures.same_bins)
+    (subst (λ r. RoomOf m a v c.args.need (after (Opened e.bins l.extent.next)) r) (sym (passed c.from_residual.result _ _ c.from_residual.ensures.1 refl))
+    (room_err m a v e.bins e.next c.args.need s c.in-Some.is l.extent.next l.registers l.work (g.S.Store.memory l.store) c.in_err-answer.field-0.0
+    (c.in_err-answer.ensures.answer m a shown) (c.in_err-answer.ensures.full m a shown)))
 
 pub returns : goal.returns
 returns g c m a s long =
     let v = view g.S.Store.memory c.args.self.now in
     let l = c.make_room-answer.new in
-    let shown = down m a v c.in-Opened.bins c.in-Opened.next c.args.work.now s c.in-Opened.is long in
-    room_ok m a v c.in-Opened.bins c.in-Opened.next c.args.need s c.in-Opened.is l.next l.registers l.work (g.S.Store.memory l.store)
-    (c.in_ok-answer.ensures.answer m a shown) (c.in_ok-answer.ensures.full m a shown)
+    let e = c.in-Some.extent in
+    let shown = down m a v e.bins e.next c.args.work.now s c.in-Some.is long in
+    let after : State → View = λ t. record { memory = g.S.Store.memory l.store; registers = l.registers; state = t } in
+    subst (λ t. HasRoom m a v c.args.need (after t) l.extent.next) (same_extent e l.extent c.make_room-answer.ensures.same_bins)
+    (room_ok m a v e.bins e.next c.args.need s c.in-Some.is l.extent.next l.registers l.work (g.S.Store.memory l.store)
+    (c.in_ok-answer.ensures.answer m a shown) (c.in_ok-answer.ensures.full m a shown))

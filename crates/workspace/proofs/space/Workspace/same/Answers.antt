@@ -1,4 +1,4 @@
-use Rattle.std.proofs.Common.{[], ◌∷◌, ℤ, refl, ap}
+use Rattle.std.proofs.Common.{[], ◌∷◌, ℤ, refl, ap, rules}
 use Rattle.rules.specs.Calls.{Call, give, registers_then}
 use Rattle.workspace.specs.Shown.{view, count}
 use Rattle.workspace.proofs.Steps.{at_door, by_giving, passed}
@@ -16,6 +16,6 @@ returns g c =
     let r = c.args.r in
     let s = c.args.s in
     let ok = c.in_ok-admit.ensures in
-    by_giving v v (Call.same r s) (r ∷ s ∷ []) (count c.agreement.result) [] ok tt refl
-    (λ m a h. let e = same_count m a v h r s c.agreement.result ok.1.0 ok.1.1.0 c.agreement.ensures.equal c.agreement.ensures.unequal in
+    by_giving v v (Call.same r s) (r ∷ s ∷ []) (count c.from.result) [] ok tt refl
+    (λ m a h. let e = same_count m a v h r s c.from.result ok.1.0 ok.1.1.0 (λ p. search rules) (λ p. search rules) in
     (m, (λ l u t. ap (λ (z : ℤ). registers_then (r ∷ s ∷ []) (give (z ∷ []) [] m)) e), h))

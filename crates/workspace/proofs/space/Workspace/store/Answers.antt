@@ -1,7 +1,10 @@
-use Rattle.std.proofs.Common.{◌≡◌, [], ◌∷◌, refl, ap, rules}
+use Rattle.std.proofs.Common.{◌≡◌, [], ◌∷◌, refl, ap, ◌∙◌, rules}
+use Rattle.rules.specs.declared.Word.{Word}
 use Rattle.rules.specs.Calls.{Call}
+use Rattle.arena.specs.Values.{name_held}
 use Rattle.workspace.specs.Reports.{told}
 use Rattle.workspace.specs.Shown.{view, nothing}
+use Rattle.workspace.specs.Taken.{taken}
 use Rattle.workspace.proofs.Steps.{at_door, passed}
 use Rattle.workspace.proofs.Raises.{raised_kept}
 use Rattle.workspace.proofs.Named.{store_unfit, store_fails, store_gives}
@@ -19,7 +22,7 @@ pub returns-in_err-cell : goal.returns-in_err-cell
 returns-in_err-cell g c =
     record {
       exact = store_unfit (view g.S.Store.memory c.args.self.now) c.args.r c.args.s c.in_ok-admit.ensures
-          c.from_residual-in_err-cell.result c.in_err-cell.field-0.0 c.in_err-cell.ensures
+          c.from_residual-in_err-cell.result c.in_err-cell.field-0.0 (c.in_err-cell.ensures ∙ ap (taken Word.Store c.args.r) (c.name.ensures ∙ ap name_held c.decoded.ensures.flags))
           (passed c.from_residual-in_err-cell.result _ _ c.from_residual-in_err-cell.ensures.1 refl);
       kept = λ _. refl;
     }
@@ -30,7 +33,7 @@ returns-in_err-in_call g c =
     raised_kept _ c.store_field.result _ _ c.in_err-in_call.field-0.0 c.in_err-in_call.ensures c.store_field.ensures.kept in
     record {
       exact = store_fails (view g.S.Store.memory c.args.self.now) c.args.r c.args.s c.in_ok-admit.ensures
-          c.in_ok-cell.cell c.in_ok-cell.ensures c.store_field.result (g.S.Store.memory c.store_field.new.store) c.store_field.ensures.stored
+          c.in_ok-cell.cell (c.in_ok-cell.ensures ∙ ap (taken Word.Store c.args.r) (c.name.ensures ∙ ap name_held c.decoded.ensures.flags)) c.store_field.result (g.S.Store.memory c.store_field.new.store) c.store_field.ensures.stored
           c.from_residual-in_err-in_call.result c.in_err-in_call.field-0.0 c.in_err-in_call.ensures
           (passed c.from_residual-in_err-in_call.result (told c.in_err-in_call.field-0.0) _ c.from_residual-in_err-in_call.ensures.1 refl)
           (ap g.S.Store.memory same);
@@ -41,6 +44,6 @@ pub returns : goal.returns
 returns g c =
     record {
       exact = store_gives (view g.S.Store.memory c.args.self.now) c.args.r c.args.s c.in_ok-admit.ensures
-          c.in_ok-cell.cell c.in_ok-cell.ensures c.store_field.result _ c.store_field.ensures.stored;
+          c.in_ok-cell.cell (c.in_ok-cell.ensures ∙ ap (taken Word.Store c.args.r) (c.name.ensures ∙ ap name_held c.decoded.ensures.flags)) c.store_field.result _ c.store_field.ensures.stored;
       kept = search rules;
     }

@@ -1,4 +1,4 @@
-use Rattle.std.proofs.Common.{◌≡◌, ◌≤◌, [], ◌∷◌, length, Err, sym, refl, ap, ◌∙◌, subst, arith}
+use Rattle.std.proofs.Common.{◌≡◌, ◌≤◌, [], ◌∷◌, length, Err, sym, refl, ap, ◌∙◌, subst, rules}
 use Rattle.rules.specs.declared.Word.{Word}
 use Rattle.rules.specs.Model.{Model, string_cells}
 use Rattle.rules.specs.Arena.{Arena}
@@ -43,12 +43,13 @@ returns-in_err-take_list g c =
       kept = untouched_same _ c.from_residual-in_err-take_list.result _ _ refl refl;
     }
 
-pub returns-then-bytes-eq0 : goal.returns-then-bytes-eq0
-returns-then-bytes-eq0 g c =
+pub returns-then-is_empty : goal.returns-then-is_empty
+returns-then-is_empty g c =
+    let none : length c.args.bytes.now ≡ 0 = search rules in
     let fit = sym c.fit.ensures.exact ∙ raised_gave c.fit.result Word.Text c.args.r tt c.in_ok-in_call.ensures in
     record {
       exact = text_empty (view g.S.Store.memory c.args.self.now) (length c.args.work.now) c.args.r c.args.bytes.now c.plain.result c.in_ok-admit.ensures fit
-          c.in_ok-take_list.ensures c.if-bytes-eq0.true c.plain.ensures;
+          c.in_ok-take_list.ensures none c.plain.ensures;
       kept = tt;
     }
 
@@ -59,7 +60,7 @@ returns-in_err-in_call-2 g c =
     let t = c.args.bytes.now in
     let gave = raised_gave c.fit.result Word.Text c.args.r tt c.in_ok-in_call.ensures in
     let fit = sym c.fit.ensures.exact ∙ gave in
-    let some : 1 ≤ length c.args.bytes.now = omega (arith, c.if-bytes-eq0.false) in
+    let some : 1 ≤ length c.args.bytes.now = search rules in
     let long = c.in_ok-take_list.ensures in
     let q = raised_since c.put_text.result Word.Text c.args.r c.in_err-in_call-2.field-0.0 c.in_err-in_call-2.ensures in
     let gives : (m : Model) (a : Arena) → Shown m a v → Enters m a v c.args.r t w (Err q.0) =
@@ -79,7 +80,7 @@ returns g c =
     let t = c.args.bytes.now in
     let gave = raised_gave c.fit.result Word.Text c.args.r tt c.in_ok-in_call.ensures in
     let fit = sym c.fit.ensures.exact ∙ gave in
-    let some : 1 ≤ length c.args.bytes.now = omega (arith, c.if-bytes-eq0.false) in
+    let some : 1 ≤ length c.args.bytes.now = search rules in
     let long = c.in_ok-take_list.ensures in
     let q = raised_gave c.put_text.result Word.Text c.args.r tt c.in_ok-in_call-2.ensures in
     record {
