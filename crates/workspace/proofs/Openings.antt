@@ -24,10 +24,10 @@ null_coded : (o : Memory) (bins n r : ℕ) → r < n →
     Codes empty (empty_arena bins) o (get_or (replicate n null) r null) (get_or (replicate n null_desc) r (desc (pos 0) 0 0))
 null_coded o bins n r below = rw (get_or-replicate n r null null below, get_or-replicate n r null_desc (desc (pos 0) 0 0) below) as_null
 
-pub opened_empty : (v : View) (bins n : ℕ) (o : Memory) → v.state ≡ Shut → 1 ≤ bins → bins ≤ 256 → bins ≤ v.memory.figures.cells → n ≡ bins →
+pub opened_empty : (v : View) (bins : ℕ) (o : Memory) → v.state ≡ Shut → 1 ≤ bins → bins ≤ 256 → bins ≤ v.memory.figures.cells →
     o.figures ≡ v.memory.figures → Shows empty (empty_arena bins) o →
-    Opens v bins (ok [] []) (record { memory = o; registers = v.registers; state = Opened bins n })
-opened_empty v bins n o shut some few room same figures shows =
+    Opens v bins (ok [] []) (record { memory = o; registers = v.registers; state = Opened bins bins })
+opened_empty v bins o shut some few room figures shows =
     record {
       answer = subst (λ (s : State). ok [] [] ≡ opening (is_open s) v.memory.figures bins) (sym shut)
           (sym (cond-true (can_open v.memory.figures bins) _ _ (bins_fit v.memory.figures bins some few room)));
@@ -35,7 +35,7 @@ opened_empty v bins n o shut some few room same figures shows =
       registers = refl;
       shown = λ _ e. record {
         shows = shows;
-        opened = subst (λ (k : ℕ). Opened bins n ≡ Opened bins k) same refl;
+        opened = refl;
         file = subst (λ (ds : List Descriptor). length ds ≡ 32) (sym e) (length-replicate 32 null_desc);
         registers = λ r below.
             subst (λ (ds : List Descriptor). Codes empty (empty_arena bins) o (register empty r) (get_or ds r (desc (pos 0) 0 0))) (sym e) (null_coded o bins 32 r below);

@@ -5,8 +5,9 @@ ghost use Rattle.workspace.specs.Shown.{view, Exact, answered, pair, written, Le
 
 use crate::faults::{Cause, WorkspaceFault, in_call, wrong_kind};
 use crate::space::Workspace;
-use arena::fields::{count_at, length_at, named};
+use arena::fields::{count_at, length_at};
 use arena::texts::read_text;
+use arena::titles::title_of;
 use arena::values::{Held, decoded};
 use cells::Store;
 use rules::Word;
@@ -29,7 +30,7 @@ impl<S: Store> Workspace<S> {
                 Ok((t, i64::from(fields)))
             }
             Held::Name(cell) => {
-                let (_, k) = in_call(named(&self.cells, cell), Word::Kind, r)?;
+                let (_, k) = in_call(title_of(&self.cells, cell), Word::Kind, r)?;
                 Ok((9, i64::from(k)))
             }
             Held::Other => Err(wrong_kind(Word::Kind, r)),

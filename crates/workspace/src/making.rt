@@ -162,7 +162,7 @@ impl<S: Store> Workspace<S> {
         }
         let need = cells_of_string(text.len() as u32, self.cells.places());
         let next = self.room(need, work)?;
-        let end = enter_text(&mut self.cells, bins, next, text)?;
+        let end = enter_text(&mut self.cells, Extent { bins, next }, text)?;
         let string = pointer_at(next, 1)?;
         self.registers[r as usize] = string;
         self.end_at(end);

@@ -8,7 +8,6 @@ ghost use Rattle.workspace.specs.Opened.{Opens};
 use crate::calls::plain;
 use crate::faults::{Cause, WorkspaceFault, in_call};
 use crate::space::Workspace;
-use arena::extent::Extent;
 use arena::opening::open_arena;
 use cells::Store;
 use rules::Word;
@@ -50,8 +49,8 @@ impl<S: Store> Workspace<S> {
         if bins == 0 || bins > MOST_BINS || bins > self.cells.cells() {
             return Err(not_opened(Cause::BadBins));
         }
-        let next = in_call(open_arena(&mut self.cells, bins), Word::Open, 0)?;
-        self.state = Some(Extent { bins, next });
+        let extent = in_call(open_arena(&mut self.cells, bins), Word::Open, 0)?;
+        self.state = Some(extent);
         Ok(())
     }
 }

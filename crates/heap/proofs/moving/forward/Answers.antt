@@ -13,7 +13,7 @@ returns-in_err-title g c =
       plain = λ e. no_flag _ e (c.is_pointer.ensures.yes c.if-not-is_pointer.false);
       moved = λ q k h.
           let ce = ok_same _ _ (c.in_ok-cell_of.ensures (q + k) h.value) in
-          ok_not_err (c.title_of.ensures q k ce (rw ce h.within) h.back) c.in_err-title.was;
+          ok_not_err (c.title_of.ensures.back q k ce (rw ce h.within) h.back) c.in_err-title.was;
     }
 
 pub returns-in_err-to : goal.returns-in_err-to
@@ -22,7 +22,7 @@ returns-in_err-to g c =
       plain = λ e. no_flag _ e (c.is_pointer.ensures.yes c.if-not-is_pointer.false);
       moved = λ q k h.
           let ce = ok_same _ _ (c.in_ok-cell_of.ensures (q + k) h.value) in
-          let te = ap (λ (x : ℕ × ℕ). x.0) (ok_same _ _ (c.in_ok-title.ensures q k ce (rw ce h.within) h.back)) in
+          let te = ap (λ (x : ℕ × ℕ). x.0) (ok_same _ _ (c.in_ok-title.ensures.back q k ce (rw ce h.within) h.back)) in
           ok_not_err (c.new_cell.ensures (rw te h.listed)) c.in_err-to.was;
     }
 
@@ -32,7 +32,7 @@ returns g c =
       plain = λ e. no_flag _ e (c.is_pointer.ensures.yes c.if-not-is_pointer.false);
       moved = λ q k h.
           let ce = ok_same _ _ (c.in_ok-cell_of.ensures (q + k) h.value) in
-          let pe = ok_same _ _ (c.in_ok-title.ensures q k ce (rw ce h.within) h.back) in
+          let pe = ok_same _ _ (c.in_ok-title.ensures.back q k ce (rw ce h.within) h.back) in
           let te = ap (λ (x : ℕ × ℕ). x.0) pe in
           let ke = ap (λ (x : ℕ × ℕ). x.1) pe in
           let we = ok_same _ _ (c.in_ok-to.ensures (rw te h.listed)) ∙ ap (λ (i : ℕ). get_or c.args.work.now i 0) te in

@@ -31,7 +31,7 @@ returns-in_err-end g c m a s long bins some few codes away =
     let k = string_cells v.memory.figures.places (length t) in
     let is = need_is v.memory t c.places.result c.cells_of_string-need.result (g.met.S.Store.sound c.args.self.now.cells) c.places.ensures some few c.cells_of_string-need.ensures in
     let h : HasRoom m a v k w c.in_ok-next.next = subst (λ (j : ℕ). HasRoom m a v j w c.in_ok-next.next) is (c.in_ok-next.ensures m a s long) in
-    ok_not_err (c.enter_text.ensures m h.arena (fresh m a v w c.in_ok-next.next t h c.args.bins bins some few codes away)).0 c.in_err-end.was
+    ok_not_err (c.enter_text.ensures.grown m h.arena (fresh m a v w c.in_ok-next.next t h c.args.bins bins some few codes away)).0 c.in_err-end.was
 
 pub returns-in_err-string : goal.returns-in_err-string
 returns-in_err-string g c m a s long bins some few codes away =
@@ -52,7 +52,7 @@ returns g c m a s long bins some few codes away =
     let k = string_cells v.memory.figures.places (length t) in
     let is = need_is v.memory t c.places.result c.cells_of_string-need.result (g.met.S.Store.sound c.args.self.now.cells) c.places.ensures some few c.cells_of_string-need.ensures in
     let h : HasRoom m a v k w c.in_ok-next.next = subst (λ (j : ℕ). HasRoom m a v j w c.in_ok-next.next) is (c.in_ok-next.ensures m a s long) in
-    let made = c.in_ok-end.ensures m h.arena (fresh m a v w next t h c.args.bins bins some few codes away) in
+    let made = c.in_ok-end.ensures.grown m h.arena (fresh m a v w next t h c.args.bins bins some few codes away) in
     let end_is = ok_same {E = HeapFault} c.in_ok-end.end (next + string_cells w.memory.figures.places (length t)) made.0 in
     let pointer = ok_same {E = HeapFault} c.in_ok-string.string (desc (pos next) 16 1) (c.in_ok-string.ensures (next_small m a v k w next (g.met.S.Store.sound c.args.self.now.cells) h)) in
     subst (λ u. Grew m a v k (put m c.args.r (Value.text t)) (λ b. arena_with_text v.memory.figures.places b t) (view g.S.Store.memory u)) (sym c.end_at.ensures)

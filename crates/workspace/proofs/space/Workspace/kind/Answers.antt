@@ -53,7 +53,7 @@ returns-in_err-k-in-Name g c =
     let ok = c.in_ok-admit.ensures in
     by_nothing v (Call.kind c.args.r) (answered pair c.from_residual-in_err-k-in-Name.result) v ok.0
     (λ m a s. let k = name_in s c.args.r ok.1.0 c.in-Name.cell c.in-Name.ensures.flags in
-    raised_never c.named.result Word.Kind c.args.r c.in_err-k-in-Name.field-0.0 (k.1.2.title, k.1.0) c.in_err-k-in-Name.ensures (c.named.ensures m a k.0 k.1.0 k.1.2))
+    raised_never c.title_of.result Word.Kind c.args.r c.in_err-k-in-Name.field-0.0 (k.1.2.title, k.1.0) c.in_err-k-in-Name.ensures (c.title_of.ensures.named m a k.0 k.1.0 k.1.2))
 
 pub returns-in_ok-length-in-Text : goal.returns-in_ok-length-in-Text
 returns-in_ok-length-in-Text g c =
@@ -84,7 +84,7 @@ returns-in_ok-k-in-Name g c =
     kind_gives (view g.S.Store.memory c.args.self.now) c.args.r 9 z ok
     (λ m a s. let k = name_in s c.args.r ok.1.0 c.in-Name.cell c.in-Name.ensures.flags in
     let n = ap (λ (x : ℕ × ℕ). x.1)
-    (raised_ok c.named.result Word.Kind c.args.r (c.in_ok-k-in-Name.field-0-0, c.in_ok-k-in-Name.k) (k.1.2.title, k.1.0) c.in_ok-k-in-Name.ensures (c.named.ensures m a k.0 k.1.0 k.1.2)) in
+    (raised_ok c.title_of.result Word.Kind c.args.r (c.in_ok-k-in-Name.field-0-0, c.in_ok-k-in-Name.k) (k.1.2.title, k.1.0) c.in_ok-k-in-Name.ensures (c.title_of.ensures.named m a k.0 k.1.0 k.1.2)) in
     kind_counts m c.args.r (Value.name k.0 k.1.0) 9 c.in_ok-k-in-Name.k k.1.0 c.from-in-Name.result z k.1.1 refl n c.from-in-Name.ensures (to_z-of_z w64 c.from-in-Name.result fy))
 
 pub returns-in-Other : goal.returns-in-Other

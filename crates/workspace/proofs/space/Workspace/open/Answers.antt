@@ -1,5 +1,8 @@
-use Rattle.std.proofs.Common.{sym, ◌∙◌, arith, rules}
+use Rattle.std.proofs.Common.{[], Some, sym, ◌∙◌, subst, arith, rules}
+use Rattle.rules.specs.Calls.{ok}
+use Rattle.arena.specs.declared.extent.Extent.{Extent}
 use Rattle.workspace.specs.Shown.{view}
+use Rattle.workspace.specs.Opened.{Opens}
 use Rattle.workspace.proofs.Admission.{shut_state}
 use Rattle.workspace.proofs.Openings.{opened_empty}
 use Rattle.workspace.proofs.Raises.{raised_ok}
@@ -8,8 +11,12 @@ use Rattle.workspace.proofs.space.Workspace.open.Goals as goal
 pub returns : goal.returns
 returns g c =
     let o = c.open_arena.ensures (omega arith) (omega arith) (omega arith) in
+    let v = view g.S.Store.memory c.args.self.now in
+    let f = g.S.Store.memory c.open_arena.new.store in
+    let shut = shut_state c.args.self.now.state (sym c.is_some.ensures ∙ c.if-is_some.false) in
+    let is = raised_ok c.open_arena.result _ _ _ _ c.in_ok-extent.ensures o.0 in
     record {
-      opens = opened_empty (view g.S.Store.memory c.args.self.now) c.args.bins c.in_ok-next.next (g.S.Store.memory c.open_arena.new.store) (shut_state c.args.self.now.state (sym c.is_some.ensures ∙ c.if-is_some.false))
-          (omega arith) (omega arith) (omega arith) (raised_ok c.open_arena.result _ _ _ _ c.in_ok-next.ensures o.0) o.1 o.2;
+      opens = subst (λ (e : Extent). Opens v c.args.bins (ok [] []) (record { memory = f; registers = v.registers; state = Some e })) (sym is)
+          (opened_empty v c.args.bins f shut (omega arith) (omega arith) (omega arith) o.1 o.2);
       kept = search rules;
     }

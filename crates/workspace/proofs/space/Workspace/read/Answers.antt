@@ -41,9 +41,9 @@ returns-in_err-count-in-Text g c =
     let ok = c.in_ok-admit.ensures in
     let f = c.in_err-count-in-Text.field-0.0 in
     record {
-      exact = exact_never v r c.in-Text.title before after c.read_text.result Word.Read r ok c.in-Text.ensures.flags c.read_text.ensures f
+      exact = exact_never v r c.in-Text.title before after c.read_text.result Word.Read r ok c.in-Text.ensures.flags c.read_text.ensures.shown f
           (written c.from_residual-in_err-count-in-Text.result after) c.in_err-count-in-Text.ensures;
-      rest = leaves_never v r c.in-Text.title before after c.read_text.result Word.Read r ok c.in-Text.ensures.flags c.read_text.ensures f
+      rest = leaves_never v r c.in-Text.title before after c.read_text.result Word.Read r ok c.in-Text.ensures.flags c.read_text.ensures.shown f
           c.from_residual-in_err-count-in-Text.result c.in_err-count-in-Text.ensures;
     }
 
@@ -57,9 +57,9 @@ returns-in_ok-count-in-Text g c =
     let x = c.in_ok-count-in-Text.count in
     record {
       exact = subst (λ y. Exact v (Call.read r (length before)) (written y after) v) (sym c.ok_or.ensures.value)
-          (exact_read v r c.in-Text.title before after c.read_text.result Word.Read r ok c.in-Text.ensures.flags c.read_text.ensures x c.in_ok-count-in-Text.ensures);
+          (exact_read v r c.in-Text.title before after c.read_text.result Word.Read r ok c.in-Text.ensures.flags c.read_text.ensures.shown x c.in_ok-count-in-Text.ensures);
       rest = subst (λ y. Leaves v y before after) (sym c.ok_or.ensures.value)
-          (leaves_read v r c.in-Text.title before after c.read_text.result Word.Read r ok c.in-Text.ensures.flags c.read_text.ensures x c.in_ok-count-in-Text.ensures);
+          (leaves_read v r c.in-Text.title before after c.read_text.result Word.Read r ok c.in-Text.ensures.flags c.read_text.ensures.shown x c.in_ok-count-in-Text.ensures);
     }
 
 pub returns-in_default : goal.returns-in_default
