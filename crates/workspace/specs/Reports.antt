@@ -45,6 +45,10 @@ cause_place Division = 0
 cause_place ShortBuffer = 0
 cause_place ShortWork = 0
 
+-- A refusal by its parts.
+abbrev pub refusal : Word → ℕ → Cause → WorkspaceFault
+refusal w r c = record { cause = c; call = w; register = r }
+
 -- A fault as the rules have it.
 abbrev pub report : WorkspaceFault → Refusal
 report f =

@@ -5,8 +5,10 @@ ghost use Rattle.rules.specs.Calls.{null as rule_null, number as rule_number, co
 ghost use Rattle.arena.specs.Values.{held};
 ghost use Rattle.workspace.specs.Shown.{view, Admits, Exact, answered, nothing, count};
 
-use crate::faults::{Cause, WorkspaceFault, taken};
+use crate::faults::{Cause, Site, WorkspaceFault};
 use crate::space::Workspace;
+use arena::NUMBER;
+use arena::titles::null_value;
 use arena::values::decoded;
 use cells::{Descriptor, Store};
 use rules::{Word, quotient_of};
@@ -14,11 +16,15 @@ use rules::{Word, quotient_of};
 // There are 32 registers.
 const REGISTERS: u32 = 32;
 
-// A descriptor by its parts.
-pub(crate) fn plain(value: i32, flags: u8, kind: u32) -> Descriptor
-    ensures { result ≡ desc value flags kind }
+// The descriptor of a number.
+fn number_value(z: i32) -> Descriptor
+    ensures { result ≡ desc z 0 6 }
 {
-    Descriptor { value, flags, kind }
+    Descriptor {
+        value: z,
+        flags: 0,
+        kind: NUMBER,
+    }
 }
 
 impl<S: Store> Workspace<S> {
@@ -27,19 +33,12 @@ impl<S: Store> Workspace<S> {
         ensures { Admits self.now.state call registers.now result }
     {
         if self.state.is_none() {
-            return Err(WorkspaceFault {
-                cause: Cause::Closed,
-                call,
-                register: registers.first().copied().unwrap_or(0),
-            });
+            let register = registers.first().copied().unwrap_or(0);
+            return Err(Site { call, register }.refusal(Cause::Closed));
         }
         for r in registers {
             if *r >= REGISTERS {
-                return Err(WorkspaceFault {
-                    cause: Cause::NoRegister,
-                    call,
-                    register: *r,
-                });
+                return Err(Site { call, register: *r }.refusal(Cause::NoRegister));
             }
         }
         Ok(())
@@ -51,7 +50,7 @@ impl<S: Store> Workspace<S> {
         ensures kept { is_err result ≡ true → self.new ≡ self.old }
     {
         self.admit(Word::Null, &[r])?;
-        self.registers[r as usize] = plain(0, 0, 1);
+        self.registers[r as usize] = null_value();
         Ok(())
     }
 
@@ -61,7 +60,7 @@ impl<S: Store> Workspace<S> {
         ensures kept { is_err result ≡ true → self.new ≡ self.old }
     {
         self.admit(Word::Number, &[r])?;
-        self.registers[r as usize] = plain(z, 0, 6);
+        self.registers[r as usize] = number_value(z);
         Ok(())
     }
 
@@ -81,22 +80,12 @@ impl<S: Store> Workspace<S> {
         ensures kept { is_err result ≡ true → self.new ≡ self.old }
     {
         self.admit(Word::Divide, &[r, s, q])?;
-        let a = taken(
-            decoded(self.registers[s as usize]).number(),
-            Word::Divide,
-            s,
-        )?;
-        let b = taken(
-            decoded(self.registers[q as usize]).number(),
-            Word::Divide,
-            q,
-        )?;
-        let z = quotient_of(a, b).ok_or(WorkspaceFault {
-            cause: Cause::Division,
-            call: Word::Divide,
-            register: r,
-        })?;
-        self.registers[r as usize] = plain(z, 0, 6);
+        let call = Word::Divide;
+        let a = Site { call, register: s }.taken(decoded(self.registers[s as usize]).number())?;
+        let b = Site { call, register: q }.taken(decoded(self.registers[q as usize]).number())?;
+        let site = Site { call, register: r };
+        let z = quotient_of(a, b).ok_or(site.refusal(Cause::Division))?;
+        self.registers[r as usize] = number_value(z);
         Ok(())
     }
 

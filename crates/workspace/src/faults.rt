@@ -1,7 +1,7 @@
 // Why a workspace refuses a call. A store's fault is carried whole inside the heap's, and that inside the workspace's.
 ghost use Rattle.std.specs.Prelude.{◌≡◌};
-ghost use Rattle.workspace.specs.Taken.{wrong_kind, taken};
-ghost use Rattle.workspace.specs.Reports.{cause_number, cause_layer, cause_place, raised, told};
+ghost use Rattle.workspace.specs.Taken.{taken};
+ghost use Rattle.workspace.specs.Reports.{cause_number, cause_layer, cause_place, raised, refusal, told};
 
 use arena::faults::HeapFault;
 use rules::{Layer, Word};
@@ -67,28 +67,6 @@ impl WorkspaceFault {
     }
 }
 
-// A value that the call does not take.
-pub(crate) fn wrong_kind(call: Word, register: u32) -> WorkspaceFault
-    ensures { result ≡ wrong_kind call register }
-{
-    WorkspaceFault {
-        cause: Cause::WrongKind,
-        call,
-        register,
-    }
-}
-
-// What a call takes from a register: any other value is refused there.
-pub(crate) fn taken<T: Drop>(
-    found: Option<T>,
-    call: Word,
-    register: u32,
-) -> Result<T, WorkspaceFault>
-    ensures { result ≡ taken call register found }
-{
-    found.ok_or(wrong_kind(call, register))
-}
-
 // A heap's fault on its way up, with the call and the register that it is reported at.
 #[derive(Clone, Copy, PartialEq, Eq, Debug)]
 pub struct Raised {
@@ -109,13 +87,39 @@ impl From<Raised> for WorkspaceFault {
     }
 }
 
-// The heap's answer, with the call and the register beside its fault.
-pub(crate) fn in_call<T>(r: Result<T, HeapFault>, call: Word, register: u32) -> Result<T, Raised>
-    ensures { result ≡ raised r call register }
-{
-    r.map_err(|fault| Raised {
-        fault,
-        call,
-        register,
-    })
+// Where a refusal is reported: at a call, and at one of its registers or at 0.
+#[derive(Clone, Copy)]
+pub(crate) struct Site {
+    pub call: Word,
+    pub register: u32,
+}
+
+impl Site {
+    pub(crate) fn refusal(self, cause: Cause) -> WorkspaceFault
+        ensures { result ≡ refusal self.call self.register cause }
+    {
+        WorkspaceFault {
+            cause,
+            call: self.call,
+            register: self.register,
+        }
+    }
+
+    // What a call takes from a register: any other value is refused there.
+    pub(crate) fn taken<T: Drop>(self, found: Option<T>) -> Result<T, WorkspaceFault>
+        ensures { result ≡ taken self.call self.register found }
+    {
+        found.ok_or(self.refusal(Cause::WrongKind))
+    }
+
+    // The heap's answer, with the call and the register beside its fault.
+    pub(crate) fn in_call<T>(self, r: Result<T, HeapFault>) -> Result<T, Raised>
+        ensures { result ≡ raised r self.call self.register }
+    {
+        r.map_err(|fault| Raised {
+            fault,
+            call: self.call,
+            register: self.register,
+        })
+    }
 }

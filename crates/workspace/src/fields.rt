@@ -3,7 +3,7 @@ ghost use Rattle.std.specs.Prelude.{◌≡◌, true, is_err};
 ghost use Rattle.rules.specs.Calls.{name as rule_name, fetch as rule_fetch, store as rule_store};
 ghost use Rattle.workspace.specs.Shown.{view, Exact, answered, nothing};
 
-use crate::faults::{WorkspaceFault, in_call, taken};
+use crate::faults::{Site, WorkspaceFault};
 use crate::space::Workspace;
 use arena::fields::{fetch_field, name_of, store_field};
 use arena::values::decoded;
@@ -17,8 +17,12 @@ impl<S: Store> Workspace<S> {
         ensures kept { is_err result ≡ true → self.new ≡ self.old }
     {
         self.admit(Word::Name, &[r, s])?;
-        let title = taken(decoded(self.registers[s as usize]).thing(), Word::Name, s)?;
-        let d = in_call(name_of(&self.cells, title, k), Word::Name, s)?;
+        let site = Site {
+            call: Word::Name,
+            register: s,
+        };
+        let title = site.taken(decoded(self.registers[s as usize]).thing())?;
+        let d = site.in_call(name_of(&self.cells, title, k))?;
         self.registers[r as usize] = d;
         Ok(())
     }
@@ -29,8 +33,12 @@ impl<S: Store> Workspace<S> {
         ensures kept { is_err result ≡ true → self.new ≡ self.old }
     {
         self.admit(Word::Fetch, &[r, s])?;
-        let cell = taken(decoded(self.registers[s as usize]).name(), Word::Fetch, s)?;
-        let d = in_call(fetch_field(&self.cells, cell), Word::Fetch, s)?;
+        let site = Site {
+            call: Word::Fetch,
+            register: s,
+        };
+        let cell = site.taken(decoded(self.registers[s as usize]).name())?;
+        let d = site.in_call(fetch_field(&self.cells, cell))?;
         self.registers[r as usize] = d;
         Ok(())
     }
@@ -41,9 +49,13 @@ impl<S: Store> Workspace<S> {
         ensures kept { is_err result ≡ true → self.new ≡ self.old }
     {
         self.admit(Word::Store, &[r, s])?;
-        let cell = taken(decoded(self.registers[r as usize]).name(), Word::Store, r)?;
+        let site = Site {
+            call: Word::Store,
+            register: r,
+        };
+        let cell = site.taken(decoded(self.registers[r as usize]).name())?;
         let d = self.registers[s as usize];
-        in_call(store_field(&mut self.cells, cell, d), Word::Store, r)?;
+        site.in_call(store_field(&mut self.cells, cell, d))?;
         Ok(())
     }
 }

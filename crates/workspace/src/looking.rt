@@ -3,7 +3,7 @@ ghost use Rattle.std.specs.Prelude.{◌≡◌, length, pos};
 ghost use Rattle.rules.specs.Calls.{kind as rule_kind, read as rule_read};
 ghost use Rattle.workspace.specs.Shown.{view, Exact, answered, pair, written, Leaves};
 
-use crate::faults::{Cause, WorkspaceFault, in_call, wrong_kind};
+use crate::faults::{Cause, Site, WorkspaceFault};
 use crate::space::Workspace;
 use arena::fields::{count_at, length_at};
 use arena::texts::read_text;
@@ -18,22 +18,26 @@ impl<S: Store> Workspace<S> {
         ensures { Exact (view S.memory self.now) (rule_kind r) (answered pair result) (view S.memory self.now) }
     {
         self.admit(Word::Kind, &[r])?;
+        let site = Site {
+            call: Word::Kind,
+            register: r,
+        };
         match decoded(self.registers[r as usize]) {
             Held::Null => Ok((1, 0)),
             Held::Number(z) => Ok((6, i64::from(z))),
             Held::Text(title) => {
-                let length = in_call(length_at(&self.cells, title), Word::Kind, r)?;
+                let length = site.in_call(length_at(&self.cells, title))?;
                 Ok((1, i64::from(length)))
             }
             Held::Block(title, t) => {
-                let fields = in_call(count_at(&self.cells, title), Word::Kind, r)?;
+                let fields = site.in_call(count_at(&self.cells, title))?;
                 Ok((t, i64::from(fields)))
             }
             Held::Name(cell) => {
-                let (_, k) = in_call(title_of(&self.cells, cell), Word::Kind, r)?;
+                let (_, k) = site.in_call(title_of(&self.cells, cell))?;
                 Ok((9, i64::from(k)))
             }
-            Held::Other => Err(wrong_kind(Word::Kind, r)),
+            Held::Other => Err(site.refusal(Cause::WrongKind)),
         }
     }
 
@@ -43,17 +47,17 @@ impl<S: Store> Workspace<S> {
         ensures rest { Leaves (view S.memory self.now) result buffer.old buffer.new }
     {
         self.admit(Word::Read, &[r])?;
+        let site = Site {
+            call: Word::Read,
+            register: r,
+        };
         match decoded(self.registers[r as usize]) {
             Held::Null => Ok(0),
             Held::Text(title) => {
-                let count = in_call(read_text(&self.cells, title, buffer), Word::Read, r)?;
-                count.ok_or(WorkspaceFault {
-                    cause: Cause::ShortBuffer,
-                    call: Word::Read,
-                    register: r,
-                })
+                let count = site.in_call(read_text(&self.cells, title, buffer))?;
+                count.ok_or(site.refusal(Cause::ShortBuffer))
             }
-            _ => Err(wrong_kind(Word::Read, r)),
+            _ => Err(site.refusal(Cause::WrongKind)),
         }
     }
 }

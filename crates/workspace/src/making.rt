@@ -7,20 +7,20 @@ ghost use Rattle.rules.specs.Calls.{put_block, make as rule_make, collect as rul
 ghost use Rattle.arena.specs.Enters.{Takes};
 ghost use Rattle.arena.specs.Growth.{arena_with_block, arena_with_text};
 ghost use Rattle.workspace.specs.declared.faults.Cause.TheVariants.{ShortWork};
+ghost use Rattle.workspace.specs.Reports.{refusal};
 ghost use Rattle.workspace.specs.Rooms.{RoomOf, Grows, Enters, Regains, ended};
 ghost use Rattle.workspace.specs.Shown.{view, Shown, ExactWith, Untouched, answered, nothing, count};
 
-use crate::calls::plain;
-use crate::faults::{Cause, WorkspaceFault, in_call};
+use crate::faults::{Cause, Site, WorkspaceFault};
 use crate::space::Workspace;
-use arena::LONGEST_TEXT;
 use arena::blocks::{fit as fit_block, make_block};
 use arena::entering::enter_text;
 use arena::extent::Extent;
 use arena::faults::{HeapFault, Rule};
 use arena::strings::find;
 use arena::texts::fit as fit_text;
-use arena::titles::pointer_at;
+use arena::titles::{null_value, pointer_at};
+use arena::{LONGEST_TEXT, TEXT};
 use cells::Store;
 use heap::regeneration::regenerate;
 use heap::room::make_room;
@@ -28,20 +28,11 @@ use rules::{Word, cells_of_string};
 
 impl<S: Store> Workspace<S> {
     // Refusal 15: the work list is as long as the cells.
-    pub(crate) fn take_list(
-        &self,
-        call: Word,
-        register: u32,
-        work: &[u32],
-    ) -> Result<(), WorkspaceFault>
-        ensures { MatchResult result (λ _. (S.memory self.now.cells).figures.cells ≤ length work.now) (λ f. (length work.now < (S.memory self.now.cells).figures.cells) × (f ≡ record { cause = ShortWork; call = call; register = register })) }
+    pub(crate) fn take_list(&self, site: Site, work: &[u32]) -> Result<(), WorkspaceFault>
+        ensures { MatchResult result (λ _. (S.memory self.now.cells).figures.cells ≤ length work.now) (λ f. (length work.now < (S.memory self.now.cells).figures.cells) × (f ≡ refusal site.call site.register ShortWork)) }
     {
         if work.len() < self.cells.cells() as usize {
-            return Err(WorkspaceFault {
-                cause: Cause::ShortWork,
-                call,
-                register,
-            });
+            return Err(site.refusal(Cause::ShortWork));
         }
         Ok(())
     }
@@ -108,9 +99,13 @@ impl<S: Store> Workspace<S> {
         ensures kept { Untouched (view S.memory self.old) result (self.new ≡ self.old) (work.new ≡ work.old) }
     {
         self.admit(Word::Make, &[r])?;
-        in_call(fit_block(n, t), Word::Make, r)?;
-        self.take_list(Word::Make, r, work)?;
-        in_call(self.add_block(r, n, t, work), Word::Make, r)?;
+        let site = Site {
+            call: Word::Make,
+            register: r,
+        };
+        site.in_call(fit_block(n, t))?;
+        self.take_list(site, work)?;
+        site.in_call(self.add_block(r, n, t, work))?;
         Ok(())
     }
 
@@ -137,8 +132,12 @@ impl<S: Store> Workspace<S> {
         ensures kept { Untouched (view S.memory self.old) result (self.new ≡ self.old) (work.new ≡ work.old) }
     {
         self.admit(Word::Collect, &[])?;
-        self.take_list(Word::Collect, 0, work)?;
-        let free = in_call(self.regain(n, work), Word::Collect, 0)?;
+        let site = Site {
+            call: Word::Collect,
+            register: 0,
+        };
+        self.take_list(site, work)?;
+        let free = site.in_call(self.regain(n, work))?;
         Ok(free)
     }
 
@@ -163,7 +162,7 @@ impl<S: Store> Workspace<S> {
         let need = cells_of_string(text.len() as u32, self.cells.places());
         let next = self.room(need, work)?;
         let end = enter_text(&mut self.cells, Extent { bins, next }, text)?;
-        let string = pointer_at(next, 1)?;
+        let string = pointer_at(next, TEXT)?;
         self.registers[r as usize] = string;
         self.end_at(end);
         Ok(())
@@ -187,7 +186,7 @@ impl<S: Store> Workspace<S> {
         let found = find(&self.cells, extent.bins, text)?;
         match found {
             Some(title) => {
-                let string = pointer_at(title, 1)?;
+                let string = pointer_at(title, TEXT)?;
                 self.registers[r as usize] = string;
                 Ok(())
             }
@@ -206,13 +205,17 @@ impl<S: Store> Workspace<S> {
         ensures kept { Untouched (view S.memory self.old) result (self.new ≡ self.old) (work.new ≡ work.old) }
     {
         self.admit(Word::Text, &[r])?;
-        in_call(fit_text(&self.cells, bytes), Word::Text, r)?;
-        self.take_list(Word::Text, r, work)?;
+        let site = Site {
+            call: Word::Text,
+            register: r,
+        };
+        site.in_call(fit_text(&self.cells, bytes))?;
+        self.take_list(site, work)?;
         if bytes.is_empty() {
-            self.registers[r as usize] = plain(0, 0, 1);
+            self.registers[r as usize] = null_value();
             return Ok(());
         }
-        in_call(self.put_text(r, bytes, work), Word::Text, r)?;
+        site.in_call(self.put_text(r, bytes, work))?;
         Ok(())
     }
 }

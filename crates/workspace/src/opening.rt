@@ -5,26 +5,21 @@ ghost use Rattle.workspace.specs.State.{Shut};
 ghost use Rattle.workspace.specs.Shown.{view, answered, nothing};
 ghost use Rattle.workspace.specs.Opened.{Opens};
 
-use crate::calls::plain;
-use crate::faults::{Cause, WorkspaceFault, in_call};
+use crate::faults::{Cause, Site, WorkspaceFault};
 use crate::space::Workspace;
 use arena::opening::open_arena;
+use arena::titles::null_value;
 use cells::Store;
 use rules::Word;
 
 // There are at most 256 bins.
 const MOST_BINS: u32 = 256;
 
-// A refusal of open, which has no register.
-fn not_opened(cause: Cause) -> WorkspaceFault
-    ensures { result ≡ record { cause = cause; call = Word.Open; register = 0 } }
-{
-    WorkspaceFault {
-        cause,
-        call: Word::Open,
-        register: 0,
-    }
-}
+// Refusals of open have no register.
+const OPENING: Site = Site {
+    call: Word::Open,
+    register: 0,
+};
 
 impl<S: Store> Workspace<S> {
     // A closed workspace over a store, with null registers.
@@ -33,7 +28,7 @@ impl<S: Store> Workspace<S> {
     {
         Workspace {
             cells: store,
-            registers: [plain(0, 0, 1); 32],
+            registers: [null_value(); 32],
             state: None,
         }
     }
@@ -44,12 +39,12 @@ impl<S: Store> Workspace<S> {
         ensures kept { is_err result ≡ true → self.new ≡ self.old }
     {
         if self.state.is_some() {
-            return Err(not_opened(Cause::AlreadyOpen));
+            return Err(OPENING.refusal(Cause::AlreadyOpen));
         }
-        if bins == 0 || bins > MOST_BINS || bins > self.cells.cells() {
-            return Err(not_opened(Cause::BadBins));
+        if !(1..=MOST_BINS).contains(&bins) || bins > self.cells.cells() {
+            return Err(OPENING.refusal(Cause::BadBins));
         }
-        let extent = in_call(open_arena(&mut self.cells, bins), Word::Open, 0)?;
+        let extent = OPENING.in_call(open_arena(&mut self.cells, bins))?;
         self.state = Some(extent);
         Ok(())
     }

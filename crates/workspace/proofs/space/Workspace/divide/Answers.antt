@@ -75,7 +75,7 @@ returns-in_err-z g c =
     let is-b = c.in_ok-b.ensures ∙ ap (taken Word.Divide q) (c.number-2.ensures ∙ ap number_held c.decoded-2.ensures.flags) in
     let fault : WorkspaceFault = record { cause = Division; call = Word.Divide; register = r } in
     record {
-      exact = by_refusing v (Call.divide r s q) (r ∷ s ∷ q ∷ []) nothing c.from_residual-in_err-z.result fault ok (passed c.from_residual-in_err-z.result _ fault c.from_residual-in_err-z.ensures.1 (err_same c.in_err-z.field-0.0 fault (c.in_err-z.ensures.value ∙ ap (λ o. ok_or o fault) c.in_err-z.ensures.ok_part))) tt refl
+      exact = by_refusing v (Call.divide r s q) (r ∷ s ∷ q ∷ []) nothing c.from_residual-in_err-z.result fault ok (passed c.from_residual-in_err-z.result _ fault c.from_residual-in_err-z.ensures.1 (err_same c.in_err-z.field-0.0 c.refusal.result (c.in_err-z.ensures.value ∙ ap (λ o. ok_or o c.refusal.result) c.in_err-z.ensures.ok_part) ∙ c.refusal.ensures)) tt refl
           (λ m a h l u t. ap (registers_then (r ∷ s ∷ q ∷ []))
           (number_is h Word.Divide s ok.1.1.0 (divisor_then m r q) x is-a
           ∙ number_is h Word.Divide q ok.1.1.1.0 (quotient_then m r x) y is-b
@@ -97,7 +97,7 @@ returns g c =
     let fy : SFits w32 y = search rules in
     let fz : SFits w32 z = search rules in
     let some = quotient_some _ _ x y z (to_z-of_z w32 x fx) (to_z-of_z w32 y fy) (sym c.in_ok-z.ensures.ok_part ∙ c.quotient_of.ensures) in
-    let d = c.plain.ensures ∙ ap (λ (k : ℤ). desc k 0 6) (to_z-of_z w32 z fz) in
+    let d = c.number_value.ensures ∙ ap (λ (k : ℤ). desc k 0 6) (to_z-of_z w32 z fz) in
     let is-a = c.in_ok-a.ensures ∙ ap (taken Word.Divide s) (c.number.ensures ∙ ap number_held c.decoded.ensures.flags) in
     let is-b = c.in_ok-b.ensures ∙ ap (taken Word.Divide q) (c.number-2.ensures ∙ ap number_held c.decoded-2.ensures.flags) in
     record {
@@ -109,7 +109,7 @@ returns g c =
                 ∙ number_is h Word.Divide q ok.1.1.1.0 (quotient_then m r x) y is-b
                 ∙ cond-true (divides x y) _ _ some.0
                 ∙ ap (λ (k : ℤ). give [] [] (put m r (Value.number k))) some.1)),
-            put_shown m a v r (Value.number z) c.plain.result h (omega (arith, ok.1.0)) tt (subst (λ (k : Descriptor). Codes m a v.memory (Value.number z) k) (sym d) as_number),
+            put_shown m a v r (Value.number z) c.number_value.result h (omega (arith, ok.1.0)) tt (subst (λ (k : Descriptor). Codes m a v.memory (Value.number z) k) (sym d) as_number),
           ));
       kept = search rules;
     }

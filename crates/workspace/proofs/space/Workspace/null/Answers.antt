@@ -25,7 +25,7 @@ returns g c =
           (λ m a s. (
             put m r Value.null,
             (λ l u h. refl),
-            put_shown m a v r Value.null c.plain.result s (omega (arith, ok.1.0)) tt (subst (λ (d : Descriptor). Codes m a v.memory Value.null d) (sym c.plain.ensures) as_null),
+            put_shown m a v r Value.null c.null_value.result s (omega (arith, ok.1.0)) tt (subst (λ (d : Descriptor). Codes m a v.memory Value.null d) (sym c.null_value.ensures) as_null),
           ));
       kept = search rules;
     }

@@ -22,13 +22,13 @@ returns g c =
     let r = c.args.r in
     let z = c.args.z in
     let ok = c.in_ok-admit.ensures in
-    let d = c.plain.ensures ∙ ap (λ (y : ℤ). desc y 0 6) (to_z-of_z w32 z c.ranges.z) in
+    let d = c.number_value.ensures ∙ ap (λ (y : ℤ). desc y 0 6) (to_z-of_z w32 z c.ranges.z) in
     record {
       exact = by_giving v _ (Call.number r z) (r ∷ []) [] [] ok tt refl
           (λ m a s. (
             put m r (Value.number z),
             (λ l u h. refl),
-            put_shown m a v r (Value.number z) c.plain.result s (omega (arith, ok.1.0)) tt (subst (λ (x : Descriptor). Codes m a v.memory (Value.number z) x) (sym d) as_number),
+            put_shown m a v r (Value.number z) c.number_value.result s (omega (arith, ok.1.0)) tt (subst (λ (x : Descriptor). Codes m a v.memory (Value.number z) x) (sym d) as_number),
           ));
       kept = search rules;
     }

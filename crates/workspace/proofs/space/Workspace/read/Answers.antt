@@ -1,4 +1,5 @@
-use Rattle.std.proofs.Common.{[], ◌∷◌, length, pos, Ok, Err, sym, refl, ap, subst}
+use Rattle.std.proofs.Common.{[], ◌∷◌, length, pos, Ok, Err, sym, refl, ap, ◌∙◌, subst}
+use Rattle.std.specs.Prelude.{ok_or}
 use Rattle.rules.specs.declared.Word.{Word}
 use Rattle.rules.specs.Calls.{Call, registers_then}
 use Rattle.workspace.specs.Shown.{view, Exact, Leaves, count, written}
@@ -56,9 +57,9 @@ returns-in_ok-count-in-Text g c =
     let ok = c.in_ok-admit.ensures in
     let x = c.in_ok-count-in-Text.count in
     record {
-      exact = subst (λ y. Exact v (Call.read r (length before)) (written y after) v) (sym c.ok_or.ensures.value)
+      exact = subst (λ y. Exact v (Call.read r (length before)) (written y after) v) (sym (c.ok_or.ensures.value ∙ ap (ok_or x) c.refusal.ensures))
           (exact_read v r c.in-Text.title before after c.read_text.result Word.Read r ok c.in-Text.ensures.flags c.read_text.ensures.shown x c.in_ok-count-in-Text.ensures);
-      rest = subst (λ y. Leaves v y before after) (sym c.ok_or.ensures.value)
+      rest = subst (λ y. Leaves v y before after) (sym (c.ok_or.ensures.value ∙ ap (ok_or x) c.refusal.ensures))
           (leaves_read v r c.in-Text.title before after c.read_text.result Word.Read r ok c.in-Text.ensures.flags c.read_text.ensures.shown x c.in_ok-count-in-Text.ensures);
     }
 
@@ -70,7 +71,7 @@ returns-in_default g c =
     let f = wrong_kind Word.Read r in
     let ok = c.in_ok-admit.ensures in
     record {
-      exact = by_refusing v (Call.read r (length buffer)) (r ∷ []) count (Err c.wrong_kind.result) f ok (ap Err c.wrong_kind.ensures) tt refl
+      exact = by_refusing v (Call.read r (length buffer)) (r ∷ []) count (Err c.refusal-in_default.result) f ok (ap Err c.refusal-in_default.ensures) tt refl
           (λ m a s l u h. ap (registers_then (r ∷ [])) (read_unfit s r (length buffer) ok.1.0 c.decoded.result c.decoded.ensures.flags c.in_default.not-Null c.in_default.not-Text));
-      rest = refused_leaves v (Err c.wrong_kind.result) f buffer (ap Err c.wrong_kind.ensures);
+      rest = refused_leaves v (Err c.refusal-in_default.result) f buffer (ap Err c.refusal-in_default.ensures);
     }

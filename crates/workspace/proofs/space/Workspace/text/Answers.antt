@@ -48,8 +48,8 @@ returns-then-is_empty g c =
     let none : length c.args.bytes.now ≡ 0 = search rules in
     let fit = sym c.fit.ensures.exact ∙ raised_gave c.fit.result Word.Text c.args.r tt c.in_ok-in_call.ensures in
     record {
-      exact = text_empty (view g.S.Store.memory c.args.self.now) (length c.args.work.now) c.args.r c.args.bytes.now c.plain.result c.in_ok-admit.ensures fit
-          c.in_ok-take_list.ensures none c.plain.ensures;
+      exact = text_empty (view g.S.Store.memory c.args.self.now) (length c.args.work.now) c.args.r c.args.bytes.now c.null_value.result c.in_ok-admit.ensures fit
+          c.in_ok-take_list.ensures none c.null_value.ensures;
       kept = tt;
     }
 
