@@ -88,9 +88,6 @@ module _ (m : Model) (a : Arena) (o : Memory) (snd : Sound o) (sh : Shows m a o)
     bin_low : bin a.bins t < a.bins
     bin_low = mod-lt (key t) sh.lawful.some_bins
 
-    pub head_below : h < o.figures.cells
-    head_below = let x = bin_low in let y = bin_is in let e = sh.laid.end in let w = sh.laid.within in omega arith
-
     module _ (d : Descriptor) (read : d ≡ o.descriptor h) where
       d_is : d ≡ o.descriptor (bin a.bins t)
       d_is = read ∙ ap (λ (c : ℕ). o.descriptor c) bin_is

@@ -7,6 +7,7 @@ pub mod Findings
 pub mod Places
 pub mod Writings
 pub mod Entries
+pub mod Alike
 pub mod Appends
 pub mod Growths
 pub mod Spots
