@@ -3,6 +3,7 @@ pub mod Cells
 pub mod Follows
 pub mod Seeks
 pub mod Things
+pub mod Kept
 pub mod Findings
 pub mod Places
 pub mod Writings

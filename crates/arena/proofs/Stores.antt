@@ -1,5 +1,5 @@
 -- A value in a field: the arena shows the model with that field changed.
-use Rattle.std.proofs.Common.{◌≡◌, ℕ, ◌+◌, ◌-◌, ◌/◌, ◌%◌, ◌<◌, ◌≤◌, Bool, true, false, cond, ◌&&◌, eqb, ◌≢◌, List, length, sym, refl, ap, ◌∙◌, subst, ⊎_elim, div-lt_iff_lt-mul, arith}
+use Rattle.std.proofs.Common.{◌≡◌, ℕ, ◌+◌, ◌<◌, ◌≤◌, Bool, true, false, cond, ◌&&◌, eqb, ◌≢◌, List, length, sym, refl, ap, ◌∙◌, subst, ⊎_elim, arith}
 use Rattle.std.proofs.lemmas.Bool.{and_parts, and_cases, cond-true, cond-false, cases_Bool, eqb-true, eqb-false}
 use Rattle.cells.specs.declared.Descriptor.{Descriptor}
 use Rattle.cells.specs.Meaning.{Memory, Figures, Sound, WroteDescriptor}
@@ -12,7 +12,7 @@ use Rattle.rules.proofs.Coded.{fields_size}
 use Rattle.rules.proofs.Tests.{thing_true, thing_decides}
 use Rattle.arena.specs.Stored.{Field, Stored}
 use Rattle.arena.proofs.Alike.{fields_same, size_same, title_same, sized_same, proper_same, coded_by, linked_by}
-use Rattle.arena.proofs.Things.{last_cell}
+use Rattle.arena.proofs.Kept.{spelled_still, padded_still}
 
 module _ (m : Model) (x : Thing) (k : ℕ) (v : Value) where
   proper_either : (b : Bool) (w : Value) → Proper m v → Proper m w → Proper m (cond b v w)
@@ -137,11 +137,8 @@ module _ (m : Model) (a : Arena) (o : Memory) (snd : Sound o) (x : Thing) (k cel
   spelled_stored : Spelled (put_field m x k v) a r
   spelled_stored =
       record {
-        spelled = λ t q j l h. rw places_same (let lo = was_at (string t) q l in
-            old_char t q (j / o.figures.places) (j % o.figures.places) lo (last_cell o.figures.places j (length t) snd.one_place h) ∙ sh.spelled.spelled t q j lo h);
-        padded = λ t q j l h. rw (places_same, ap (λ (g : Figures). g.lowest) w.figures) (λ u. let lo = was_at (string t) q l in
-            old_char t q (j / o.figures.places) (j % o.figures.places) lo
-            (let b = (div-lt_iff_lt-mul {x = j} {y = string_cells o.figures.places (length t) - (2 + string_fields)} snd.one_place).1 u in omega arith) ∙ sh.spelled.padded t q j lo h u);
+        spelled = λ t q j l h. rw places_same (spelled_still m a o snd sh r old_char t q j (was_at (string t) q l) h);
+        padded = λ t q j l h. rw (places_same, ap (λ (g : Figures). g.lowest) w.figures) (padded_still m a o snd sh r old_char t q j (was_at (string t) q l) h);
       }
 
   pub field_stored : Stored m a o x k v r

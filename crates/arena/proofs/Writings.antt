@@ -5,7 +5,7 @@ use Rattle.cells.specs.declared.Descriptor.{Descriptor}
 use Rattle.cells.specs.Meaning.{Memory, Figures, FitDescriptor, FitCode, WroteDescriptor, WroteCharacter}
 use Rattle.rules.specs.Arena.{desc, null_desc}
 use Rattle.arena.specs.Enters.{code_at, Takes, Writing, Written, Entered}
-use Rattle.arena.proofs.Cells.{same, apart, compare_cells}
+use native.Mathlib.Decide.{ℕ_discrete}
 
 -- A place of a cell is told by both of its numbers.
 place_same : (c j k : ℕ) → j / c ≡ k / c → j % c ≡ k % c → j ≡ k
@@ -27,13 +27,13 @@ module _ (o : Memory) (p rows : ℕ) (t : List ℕ) where
     more_core x r' e w =
         record {
           figures = w.figures ∙ s.figures;
-          done = λ j h. elim (compare_cells j k) [
-            | same z ↦ rw z (w.here ∙ e)
-            | apart z ↦ elim (compare_cells (j / o.figures.places) (k / o.figures.places)) [
-              | same y ↦ (let n : j % o.figures.places ≢ k % o.figures.places = λ u. z (place_same o.figures.places j k y u) in
+          done = λ j h. elim (ℕ_discrete j k) [
+            | yes z ↦ rw z (w.here ∙ e)
+            | no z ↦ elim (ℕ_discrete (j / o.figures.places) (k / o.figures.places)) [
+              | yes y ↦ (let n : j % o.figures.places ≢ k % o.figures.places = λ u. z (place_same o.figures.places j k y u) in
                   ap (λ (i : ℕ). r'.character (p + i) (j % o.figures.places)) y ∙ w.places (j % o.figures.places) n
                   ∙ ap (λ (i : ℕ). r.character (p + i) (j % o.figures.places)) (sym y) ∙ s.done j (omega arith))
-              | apart y ↦ w.characters (p + j / o.figures.places) (j % o.figures.places) (omega arith) ∙ s.done j (omega arith)
+              | no y ↦ w.characters (p + j / o.figures.places) (j % o.figures.places) (omega arith) ∙ s.done j (omega arith)
             ]
           ];
           descriptors = λ c h. (let y = row in w.descriptors c (⊎_elim (λ u. omega arith) (λ u. omega arith) h) ∙ s.descriptors c h);
