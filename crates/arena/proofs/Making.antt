@@ -26,7 +26,7 @@ get_or-more : (l : List ℕ) (n i : ℕ) → get_or l i 0 ≤ get_or (l ++ (n �
 get_or-more l n i = elim (dec_lt i (length l)) [ yes e ↦ omega (arith, get_or_append_left l (n ∷ []) 0 i e) | no e ↦ omega (arith, get_or_past l i 0 (omega arith)) ]
 
 string_no_block : {A : Type 0} (t : Text) (i : ℕ) → string t ≡ block i → A
-string_no_block t i e = absurd (let z : ◌≡◌ {A = ℕ} 0 1 = cc in omega arith)
+string_no_block t i e = cc
 
 other_thing : (x y : Thing) → (x ≡ y → ⊥) → same_thing x y ≡ false
 other_thing x y n = ⊎_elim (λ e. absurd (n (thing_true x y e))) (λ e. e) (cases_Bool (same_thing x y))
