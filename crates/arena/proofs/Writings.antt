@@ -1,10 +1,11 @@
 -- The cells of a new string, as they are written.
-use Rattle.std.proofs.Common.{◌≡◌, ℕ, ◌+◌, ◌*◌, ◌/◌, ◌%◌, ◌<◌, ◌≤◌, Bool, true, false, cond, ltb, ◌≢◌, List, length, get_or, pos, sym, refl, ap, ◌∙◌, subst, ⊎_elim, mod-lt, div-lt_iff_lt-mul, arith, ltb-true}
+use Rattle.std.proofs.Common.{◌≡◌, ℕ, ◌+◌, ◌-◌, ◌*◌, ◌/◌, ◌%◌, ◌<◌, ◌≤◌, Bool, true, false, cond, ltb, ◌≢◌, List, length, get_or, pos, sym, refl, ap, ◌∙◌, subst, ⊎_elim, mod-lt, div-lt_iff_lt-mul, arith, ltb-true}
 use native.Mathlib.Nat.{div-add-mod}
 use Rattle.cells.specs.declared.Descriptor.{Descriptor}
 use Rattle.cells.specs.Meaning.{Memory, Figures, FitDescriptor, FitCode, WroteDescriptor, WroteCharacter}
+use Rattle.rules.specs.Model.{string_fields, string_cells}
 use Rattle.rules.specs.Arena.{desc, null_desc}
-use Rattle.arena.specs.Enters.{code_at, Takes, Writing, Written, Entered}
+use Rattle.arena.specs.Enters.{code_at, Takes, Framed, Writing, Written, Entered}
 use native.Mathlib.Decide.{ℕ_discrete}
 
 -- A place of a cell is told by both of its numbers.
@@ -63,3 +64,8 @@ pointer_fits f t p k e l = rw e (omega arith, l)
 pub entered : (o : Memory) (p : ℕ) (t : List ℕ) (k c : ℕ) (old : Descriptor) (r1 r2 : Memory) → c < p → old ≡ o.descriptor c →
     Written o p t (desc old.value old.flags k) r1 → WroteDescriptor r1 c (desc (pos p) 16 old.kind) r2 → Entered o p t k c r2
 entered o p t k c old r1 r2 low read w d = grind arith
+
+-- Frame and characters make a string.
+pub written : (o : Memory) (p n q rows : ℕ) (t : List ℕ) (d : Descriptor) (r1 r2 : Memory) → n ≡ length t → q ≡ p + 2 + string_fields → rows ≡ string_cells o.figures.places (length t) - (2 + string_fields) →
+    Framed o p n d r1 → Writing r1 q rows t (rows * r1.figures.places) r2 → Written o p t d r2
+written o p n q rows t d r1 r2 ne qe re f w = grind arith
