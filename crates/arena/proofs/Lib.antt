@@ -21,7 +21,6 @@ pub mod Decoding
 pub mod Readings
 pub mod Stores
 pub mod Fits
-pub mod Copies
 pub mod Openings
 pub mod Registers
 pub mod Meanings
