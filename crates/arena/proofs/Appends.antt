@@ -1,11 +1,10 @@
 -- One more thing at the end of an order.
 use Rattle.std.proofs.Common.{◌≡◌, ℕ, ◌+◌, ◌⊎◌, List, [], ◌∷◌, ◌++◌, sym, refl, subst, inl, inr, ⊎_elim, arith}
-use Rattle.cells.specs.declared.Descriptor.{Descriptor}
 use Rattle.rules.specs.Lists.{In, Once, total}
-use Rattle.rules.specs.Model.{Text, Thing}
-use Rattle.rules.specs.Arena.{Lies, here, later, Linked, at_end, to_next}
+use Rattle.rules.specs.Model.{Thing}
+use Rattle.rules.specs.Arena.{Lies, here, later}
 use Rattle.rules.proofs.Lists.{in_right, in_either, total_append}
-use Rattle.rules.proofs.Lies.{lies_left, lies_at, lies_either}
+use Rattle.rules.proofs.Lies.{lies_at, lies_either}
 
 module _ (s : Thing → ℕ) (y : Thing) where
   pub lies_last : (a : ℕ) (xs : List Thing) (q : ℕ) → q ≡ a + total s xs → Lies s a (xs ++ (y ∷ [])) y q
@@ -20,10 +19,6 @@ module _ (s : Thing → ℕ) (y : Thing) where
 
   pub total_last : (xs : List Thing) → total s (xs ++ (y ∷ [])) ≡ total s xs + s y
   total_last xs = omega (arith, total_append s xs (y ∷ []))
-
-  pub linked_left : (a n : ℕ) (xs : List Thing) (ts : List Text) (d : Descriptor) → Linked s a xs n ts d → Linked s a (xs ++ (y ∷ [])) n ts d
-  linked_left a n xs ts d (at_end e) = at_end e
-  linked_left a n xs ts d (to_next p l e) = to_next p (lies_left s (y ∷ []) l) e
 
 module _ {A : Type 0} (y : A) where
   pub in_last : (xs : List A) → In y (xs ++ (y ∷ []))

@@ -1,6 +1,7 @@
 -- Looking a text up in an arena that shows a model.
 use Rattle.std.proofs.Common.{◌≡◌, ℕ, ◌+◌, ◌<◌, ◌≤◌, ◌≢◌, List, ◌∷◌, length, pos, Some, None, sym, refl, ap, ◌∙◌, mod-lt, arith}
 use native.Mathlib.Decide.{dec_lt}
+use Rattle.std.proofs.lemmas.List.{same_lists, get_or_default}
 use Rattle.cells.specs.declared.Descriptor.{Descriptor}
 use Rattle.cells.specs.Meaning.{Memory, Sound}
 use Rattle.rules.specs.Lists.{In, Once}
@@ -10,7 +11,7 @@ use Rattle.rules.specs.Arena.{desc, Next, now, Arena, at_end, to_next, At, Links
 use Rattle.rules.specs.Arena as arena
 use Rattle.rules.proofs.Lies.{lies_in, lies_end, lies_one}
 use Rattle.arena.specs.Finds.{Readable, Spells, Hangs, Seeks, runs_out, hits, stops, goes_on, Sought}
-use Rattle.arena.proofs.Things.{size_some, few_texts, in_next, next_in, rises_all, linked_kind, list_same, last_cell}
+use Rattle.arena.proofs.Things.{size_some, few_texts, in_next, next_in, rises_all, linked_kind, last_cell}
 
 module _ (m : Model) (a : Arena) (o : Memory) (snd : Sound o) (sh : Shows m a o) where
   abbrev sz : Thing → ℕ
@@ -35,7 +36,8 @@ module _ (m : Model) (a : Arena) (o : Memory) (snd : Sound o) (sh : Shows m a o)
   differs : (u t : Text) (q : ℕ) → At m a o (string u) q → u ≢ t → Spells o q t → ⊥
   differs u t q l n s =
       let p = spelt u q l in
-      n (list_same u t (sym p.long ∙ s.long) (λ j h. sym (p.codes j (let e = p.long in let f = s.long in omega arith)) ∙ s.codes j h))
+      n (same_lists u t (sym p.long ∙ s.long) (λ j d h. get_or_default u j d 0 h ∙ sym (p.codes j h) ∙ s.codes j (let e = p.long in let f = s.long in omega arith)
+      ∙ get_or_default t j 0 d (let e = p.long in let f = s.long in omega arith)))
 
   hangs : (u : Text) (q n : ℕ) (d : Descriptor) → At m a o (string u) q → d ≡ desc (pos q) 16 n → Hangs o d q
   hangs u q n d l e = record { flag = ap (λ (x : Descriptor). x.flags) e; value = ap (λ (x : Descriptor). x.value) e; readable = readable u q l }
@@ -87,9 +89,6 @@ module _ (m : Model) (a : Arena) (o : Memory) (snd : Sound o) (sh : Shows m a o)
 
     bin_low : bin a.bins t < a.bins
     bin_low = mod-lt (key t) sh.lawful.some_bins
-
-    pub head_below : h < o.figures.cells
-    head_below = let x = bin_low in let y = bin_is in let e = sh.laid.end in let w = sh.laid.within in omega arith
 
     module _ (d : Descriptor) (read : d ≡ o.descriptor h) where
       d_is : d ≡ o.descriptor (bin a.bins t)

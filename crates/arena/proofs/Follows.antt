@@ -1,5 +1,5 @@
 -- A head or a link that ends its chain, or leads to a string.
-use Rattle.std.proofs.Common.{◌≡◌, ℕ, pos, Some, None, Ok, Err, Option, Result, subst, arith}
+use Rattle.std.proofs.Common.{◌≡◌, ℕ, pos, Some, None, Ok, Err, Option, Result, subst}
 use Rattle.cells.specs.declared.Descriptor.{Descriptor}
 use Rattle.arena.specs.declared.faults.HeapFault.{HeapFault}
 use Rattle.arena.proofs.Outcomes.{ok_not_err}
@@ -18,8 +18,8 @@ module _ (d : Descriptor) (f : Result (Option ℕ) HeapFault) (last : d.flags �
 
   pub at_end : Leads d A B → f ≡ Ok None → A
   at_end (ends z h) e = h
-  at_end (leads q z v h) e = absurd (let m = more q z v in let y : ◌≡◌ {A = ℕ} 0 1 = cc in omega arith)
+  at_end (leads q z v h) e = let m = more q z v in cc
 
   pub at_next : (p : ℕ) → Leads d A B → f ≡ Ok (Some p) → B p
-  at_next p (ends z h) e = absurd (let l = last z in let y : ◌≡◌ {A = ℕ} 0 1 = cc in omega arith)
+  at_next p (ends z h) e = let l = last z in cc
   at_next p (leads q z v h) e = let m = more q z v in let y : q ≡ p = cc in subst B y h

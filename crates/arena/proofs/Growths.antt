@@ -4,8 +4,9 @@ use Rattle.cells.specs.declared.Descriptor.{Descriptor}
 use Rattle.cells.specs.Meaning.{Memory, Figures}
 use Rattle.rules.specs.Lists.{In, total}
 use Rattle.rules.specs.Model.{Text, Thing, Value, Model, fields, size}
-use Rattle.rules.specs.Arena.{Lies, as_null, as_number, as_text, as_block, as_name, at_end, to_next, Arena, title, At, Codes, Links, Laid, Shows}
+use Rattle.rules.specs.Arena.{Lies, Arena, title, At, Codes, Links, Laid, Shows}
 use Rattle.rules.proofs.Lies.{lies_in, lies_end, lies_left, lies_like, total_like}
+use Rattle.arena.proofs.Alike.{coded_by, linked_by}
 use Rattle.arena.proofs.Appends.{lies_last, lies_new, total_last}
 
 module _ (m m' : Model) (a : Arena) (o o' : Memory) (y : Thing) (k : ℕ) (chain : ℕ → List Text) (sh : Shows m a o) (fg : o'.figures ≡ o.figures)
@@ -46,15 +47,10 @@ module _ (m m' : Model) (a : Arena) (o o' : Memory) (y : Thing) (k : ℕ) (chain
 
   -- What coded a value, or linked to a string, does so still.
   pub codes_still : (v : Value) (d : Descriptor) → Codes m a o v d → Codes m' grown o' v d
-  codes_still v d as_null = as_null
-  codes_still v d as_number = as_number
-  codes_still v d (as_text l) = as_text (old_at _ _ l)
-  codes_still v d (as_block l) = as_block (old_at _ _ l)
-  codes_still v d (as_name l) = as_name (old_at _ _ l)
+  codes_still = coded_by old_at
 
   pub links_still : (n : ℕ) (ts : List Text) (d : Descriptor) → Links m a o n ts d → Links m' grown o' n ts d
-  links_still n ts d (at_end e) = at_end e
-  links_still n ts d (to_next p l e) = to_next p (old_at _ _ l) e
+  links_still = linked_by old_at
 
   -- A cell of an old thing lies below the end.
   pub inside : (x : Thing) (q j : ℕ) → At m a o x q → j < size o.figures.places m x → q + j < a.«next»

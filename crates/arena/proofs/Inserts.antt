@@ -1,5 +1,5 @@
 -- An arena with one more string shows the same model.
-use Rattle.std.proofs.Common.{◌≡◌, ℕ, ◌+◌, ◌-◌, ◌*◌, ◌/◌, ◌%◌, ◌<◌, ◌≤◌, eqb, ◌≢◌, ◌⊎◌, List, [], ◌∷◌, ◌++◌, length, get_or, sym, refl, ap, ◌∙◌, subst, inl, ⊎_elim, mod-lt, div-lt_iff_lt-mul, arith}
+use Rattle.std.proofs.Common.{◌≡◌, ℕ, ◌+◌, ◌-◌, ◌*◌, ◌<◌, ◌≤◌, eqb, ◌≢◌, ◌⊎◌, List, [], ◌∷◌, ◌++◌, length, get_or, sym, refl, ap, ◌∙◌, subst, inl, ⊎_elim, mod-lt, div-lt_iff_lt-mul, arith}
 use Rattle.std.proofs.lemmas.Bool.{cond-true, cond-false, cond_both, lt-ltb, le-ltb, eqb-true, eqb-false}
 use Rattle.cells.specs.declared.Descriptor.{Descriptor}
 use Rattle.cells.specs.Meaning.{Memory, Figures, Sound}
@@ -13,7 +13,8 @@ use Rattle.rules.proofs.Coded.{fields_size}
 use Rattle.rules.proofs.Tests.{dec_value}
 use Rattle.arena.specs.Growth.{insert, arena_with_text, Grown}
 use Rattle.arena.specs.Enters.{code_at, Entered, Open, Fresh}
-use Rattle.arena.proofs.Cells.{same, apart, compare_cells}
+use native.Mathlib.Decide.{ℕ_discrete}
+use Rattle.arena.proofs.Kept.{spelled_still, padded_still}
 use Rattle.arena.proofs.Things.{string_same, last_cell, next_in}
 use Rattle.arena.proofs.Appends.{in_last, in_new, once_last}
 use Rattle.arena.proofs.Growths as growths
@@ -82,7 +83,7 @@ module _ (m : Model) (a : Arena) (o : Memory) (snd : Sound o) (sh : Shows m a o)
   null_field k k1 k2 = elim (dec_value (m.field (string t) k) null) [ yes e ↦ e | no n ↦ absurd (away (sh.lawful.valued t k k1 k2 n)) ]
 
   null_cell : (k : ℕ) → 1 ≤ k → k ≤ string_fields → r.descriptor (a.«next» + k) ≡ null_desc
-  null_cell k k1 k2 = elim (compare_cells k 1) [ same z ↦ rw z en.value | apart z ↦ (let y : k ≡ 2 = omega arith in rw y en.label) ]
+  null_cell k k1 k2 = elim (ℕ_discrete k 1) [ yes z ↦ rw z en.value | no z ↦ (let y : k ≡ 2 = omega arith in rw y en.label) ]
 
   laid_entered : Laid m (arena_with_text o.figures.places a t) r
   laid_entered =
@@ -105,14 +106,13 @@ module _ (m : Model) (a : Arena) (o : Memory) (snd : Sound o) (sh : Shows m a o)
   spelled_entered =
       record {
         spelled = λ u q j l h. rw places_same (⊎_elim
-            (λ i. old_char u q (j / o.figures.places) (j % o.figures.places) i (last_cell o.figures.places j (length u) snd.one_place h) ∙ sh.spelled.spelled u q j i h)
+            (λ i. spelled_still m a o snd sh r old_char u q j i h)
             (λ i. let ut = string_same u t i.0 in
             let h' : j < length t = rw ut at h in
             let b = last_cell o.figures.places j (length t) snd.one_place h' in
             rw (i.1, ut) (en.codes j ((div-lt_iff_lt-mul snd.one_place).0 (omega arith)) ∙ code_in t o.figures.lowest j h')) (either_at (string u) q l));
         padded = λ u q j l h. rw (places_same, ap (λ (x : Figures). x.lowest) en.figures) (λ k. ⊎_elim
-            (λ i. old_char u q (j / o.figures.places) (j % o.figures.places) i
-            (let b = (div-lt_iff_lt-mul {x = j} {y = string_cells o.figures.places (length u) - (2 + string_fields)} snd.one_place).1 k in omega arith) ∙ sh.spelled.padded u q j i h k)
+            (λ i. padded_still m a o snd sh r old_char u q j i h k)
             (λ i. let ut = string_same u t i.0 in
             let h' : length t ≤ j = rw ut at h in
             let k' : j < (string_cells o.figures.places (length t) - (2 + string_fields)) * o.figures.places = rw ut at k in

@@ -3,10 +3,12 @@ pub mod Cells
 pub mod Follows
 pub mod Seeks
 pub mod Things
+pub mod Kept
 pub mod Findings
 pub mod Places
 pub mod Writings
 pub mod Entries
+pub mod Alike
 pub mod Appends
 pub mod Growths
 pub mod Spots
@@ -19,7 +21,6 @@ pub mod Decoding
 pub mod Readings
 pub mod Stores
 pub mod Fits
-pub mod Copies
 pub mod Openings
 pub mod Registers
 pub mod Meanings

@@ -1,6 +1,8 @@
 -- An arena with one more block shows the model with that block made.
-use Rattle.std.proofs.Common.{◌≡◌, ℕ, zero, suc, ◌+◌, ◌-◌, ◌/◌, ◌%◌, ◌<◌, ◌≤◌, Bool, true, false, cond, ◌⊎◌, List, [], ◌∷◌, ◌++◌, length, get_or, pos, sym, refl, ap, ◌∙◌, subst, inl, ⊎_elim, div-lt_iff_lt-mul, arith}
+use Rattle.std.proofs.Common.{◌≡◌, ℕ, ◌+◌, ◌<◌, ◌≤◌, Bool, true, false, cond, ◌⊎◌, List, [], ◌∷◌, ◌++◌, length, get_or, pos, sym, refl, ap, ◌∙◌, subst, inl, ⊎_elim, arith}
 use Rattle.std.proofs.lemmas.Bool.{cond-true, cond-false, cases_Bool}
+use Rattle.std.proofs.lemmas.List.{get_or_append_left, get_or_past, get_or_push}
+use native.Mathlib.Decide.{dec_lt}
 use Rattle.cells.specs.declared.Descriptor.{Descriptor}
 use Rattle.cells.specs.Meaning.{Memory, Figures, Sound}
 use Rattle.rules.specs.Lists.{In}
@@ -12,31 +14,19 @@ use Rattle.rules.proofs.Coded.{fields_size}
 use Rattle.rules.proofs.Tests.{thing_true, thing_refl}
 use Rattle.arena.specs.Blocks.{Made}
 use Rattle.arena.specs.Growth.{add_block, arena_with_block, Grown}
-use Rattle.arena.proofs.Things.{last_cell}
+use Rattle.arena.proofs.Kept.{spelled_still, padded_still}
 use Rattle.arena.proofs.Appends.{in_new, once_last}
 use Rattle.arena.proofs.Growths as growths
 
--- The field count of the new block, and of one before it.
-get_or-last : (l : List ℕ) (n : ℕ) → get_or (l ++ (n ∷ [])) (length l) 0 ≡ n
-get_or-last [] n = refl
-get_or-last (x ∷ xs) n = get_or-last xs n
-
-get_or-end : (l : List ℕ) → get_or l (length l) 0 ≡ 0
-get_or-end [] = refl
-get_or-end (x ∷ xs) = get_or-end xs
-
+-- The field count of a block before the new one.
 get_or-before : (l : List ℕ) (n i : ℕ) → 1 ≤ get_or l i 0 → get_or (l ++ (n ∷ [])) i 0 ≡ get_or l i 0
-get_or-before [] n i h = absurd (omega arith)
-get_or-before (x ∷ xs) n zero h = refl
-get_or-before (x ∷ xs) n (suc i) h = get_or-before xs n i h
+get_or-before l n i h = elim (dec_lt i (length l)) [ yes e ↦ get_or_append_left l (n ∷ []) 0 i e | no e ↦ absurd (let z = get_or_past l i 0 (omega arith) in omega arith) ]
 
 get_or-more : (l : List ℕ) (n i : ℕ) → get_or l i 0 ≤ get_or (l ++ (n ∷ [])) i 0
-get_or-more [] n i = omega arith
-get_or-more (x ∷ xs) n zero = omega arith
-get_or-more (x ∷ xs) n (suc i) = get_or-more xs n i
+get_or-more l n i = elim (dec_lt i (length l)) [ yes e ↦ omega (arith, get_or_append_left l (n ∷ []) 0 i e) | no e ↦ omega (arith, get_or_past l i 0 (omega arith)) ]
 
 string_no_block : {A : Type 0} (t : Text) (i : ℕ) → string t ≡ block i → A
-string_no_block t i e = absurd (let z : ◌≡◌ {A = ℕ} 0 1 = cc in omega arith)
+string_no_block t i e = cc
 
 other_thing : (x y : Thing) → (x ≡ y → ⊥) → same_thing x y ≡ false
 other_thing x y n = ⊎_elim (λ e. absurd (n (thing_true x y e))) (λ e. e) (cases_Bool (same_thing x y))
@@ -75,7 +65,7 @@ module _ (m : Model) (a : Arena) (o : Memory) (snd : Sound o) (sh : Shows m a o)
 
   -- The new block is none of the arena.
   away : In (block (length m.made)) a.order → ⊥
-  away h = let w = (sh.lawful.sized (block i) h).0 in let z = get_or-end m.made in omega arith
+  away h = let w = (sh.lawful.sized (block i) h).0 in let z = get_or_past m.made (length m.made) 0 (omega arith) in omega arith
 
   before : (j : ℕ) → In (block j) a.order → get_or (m.made ++ (n ∷ [])) j 0 ≡ get_or m.made j 0
   before j h = get_or-before m.made n j (sh.lawful.sized (block j) h).0
@@ -96,7 +86,7 @@ module _ (m : Model) (a : Arena) (o : Memory) (snd : Sound o) (sh : Shows m a o)
   values x j h = cond-false _ _ _ (other_thing (block i) x (λ e. away (subst (λ (y : Thing). In y a.order) (sym e) h)))
 
   its_count : get_or (m.made ++ (n ∷ [])) (length m.made) 0 ≡ n
-  its_count = get_or-last m.made n
+  its_count = get_or_push m.made n 0 (length m.made) refl
 
   its_value : (j : ℕ) → (add_block m n).field (block (length m.made)) j ≡ null
   its_value j = cond-true _ _ _ (thing_refl (block i))
@@ -155,19 +145,16 @@ module _ (m : Model) (a : Arena) (o : Memory) (snd : Sound o) (sh : Shows m a o)
   places_same : r.figures.places ≡ o.figures.places
   places_same = ap (λ (x : Figures). x.places) md.figures
 
-  old_char : (u : Text) (q j k : ℕ) → At m a o (string u) q → 4 + j < string_cells o.figures.places (length u) →
-      r.character (q + 2 + string_fields + j) k ≡ o.character (q + 2 + string_fields + j) k
-  old_char u q j k l h = md.characters (q + 2 + string_fields + j) k (inl (let w = inside (string u) q (4 + j) l h in omega arith))
-
   spelled_made : Spelled (add_block m n) (arena_with_block m a n) r
   spelled_made =
       record {
-        spelled = λ u q j l h. rw places_same (let x = string_at u q l in
-            old_char u q (j / o.figures.places) (j % o.figures.places) x (last_cell o.figures.places j (length u) snd.one_place h) ∙ sh.spelled.spelled u q j x h);
-        padded = λ u q j l h. rw (places_same, ap (λ (x : Figures). x.lowest) md.figures) (λ k. let x = string_at u q l in
-            old_char u q (j / o.figures.places) (j % o.figures.places) x
-            (let b = (div-lt_iff_lt-mul {x = j} {y = string_cells o.figures.places (length u) - (2 + string_fields)} snd.one_place).1 k in omega arith) ∙ sh.spelled.padded u q j x h k);
+        spelled = λ u q j l h. rw places_same (spelled_still m a o snd sh r old_char u q j (string_at u q l) h);
+        padded = λ u q j l h. rw (places_same, ap (λ (x : Figures). x.lowest) md.figures) (padded_still m a o snd sh r old_char u q j (string_at u q l) h);
       }
+    where
+      old_char : (u : Text) (q j k : ℕ) → At m a o (string u) q → 4 + j < string_cells o.figures.places (length u) →
+          r.character (q + 2 + string_fields + j) k ≡ o.character (q + 2 + string_fields + j) k
+      old_char u q j k l h = md.characters (q + 2 + string_fields + j) k (inl (let w = inside (string u) q (4 + j) l h in omega arith))
 
   pub grown_by_block : Grown m a o (block (length m.made)) (add_block m n) (arena_with_block m a n) r
   grown_by_block =

@@ -57,9 +57,6 @@ module _ (m : Model) (a : Arena) (o : Memory) (x : Thing) (k cell : ℕ) (f : Fi
   pub back_from : Back o f.title k
   back_from = back_at m a o f.shows x f.title k f.at f.few
 
-  pub field_coded : (d : Descriptor) → d ≡ o.descriptor cell → Codes m a o (m.field x k) d
-  field_coded d e = rw (e, f.cell_is) (f.shows.laid.coded x f.title k f.at f.some f.few)
-
   -- What holds of the title and the distance found by going back holds of the field.
   pub by_field : (P : ℕ → ℕ → Type 0) → ((p j : ℕ) → cell ≡ p + j → cell < o.figures.cells → Back o p j → P p j) → P f.title k
   by_field P h = h f.title k f.cell_is cell_below back_from

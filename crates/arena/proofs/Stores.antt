@@ -1,42 +1,20 @@
 -- A value in a field: the arena shows the model with that field changed.
-use Rattle.std.proofs.Common.{◌≡◌, ℕ, ◌+◌, ◌-◌, ◌/◌, ◌%◌, ◌<◌, ◌≤◌, Bool, true, false, cond, ◌&&◌, eqb, ◌≢◌, List, length, sym, refl, ap, ◌∙◌, subst, ⊎_elim, div-lt_iff_lt-mul, arith}
+use Rattle.std.proofs.Common.{◌≡◌, ℕ, ◌+◌, ◌<◌, ◌≤◌, Bool, true, false, cond, ◌&&◌, eqb, ◌≢◌, List, length, sym, refl, ap, ◌∙◌, subst, ⊎_elim, arith}
 use Rattle.std.proofs.lemmas.Bool.{and_parts, and_cases, cond-true, cond-false, cases_Bool, eqb-true, eqb-false}
 use Rattle.cells.specs.declared.Descriptor.{Descriptor}
 use Rattle.cells.specs.Meaning.{Memory, Figures, Sound, WroteDescriptor}
 use Rattle.rules.specs.Lists.{In}
-use Rattle.rules.specs.Model.{Text, Thing, block, string, Value, null, number, text, to, name, Model, register, fields, size, string_fields, string_cells, same_thing}
-use Rattle.rules.specs.Arena.{Lies, as_null, as_number, as_text, as_block, as_name, at_end, to_next, Proper, Good, Sized, Arena, title, Lawful, Laid, Threaded, Spelled, Shows, At, Codes, Links}
+use Rattle.rules.specs.Model.{Text, Thing, string, Value, Model, register, fields, size, string_fields, string_cells, same_thing}
+use Rattle.rules.specs.Arena.{Lies, Proper, Good, Arena, Lawful, Laid, Threaded, Spelled, Shows, At, Codes, Links}
 use Rattle.rules.specs.Calls.{put_field}
 use Rattle.rules.proofs.Lies.{lies_in, lies_from, lies_one, lies_apart, lies_like, total_like}
 use Rattle.rules.proofs.Coded.{fields_size}
 use Rattle.rules.proofs.Tests.{thing_true, thing_decides}
 use Rattle.arena.specs.Stored.{Field, Stored}
-use Rattle.arena.proofs.Things.{last_cell}
+use Rattle.arena.proofs.Alike.{fields_same, size_same, title_same, sized_same, proper_same, coded_by, linked_by}
+use Rattle.arena.proofs.Kept.{spelled_still, padded_still}
 
 module _ (m : Model) (x : Thing) (k : ℕ) (v : Value) where
-  size_same : (c : ℕ) (y : Thing) → size c m y ≡ size c (put_field m x k v) y
-  size_same c (block i) = refl
-  size_same c (string t) = refl
-
-  fields_same : (y : Thing) → fields (put_field m x k v) y ≡ fields m y
-  fields_same (block i) = refl
-  fields_same (string t) = refl
-
-  title_same : (y : Thing) (q : ℕ) → title (put_field m x k v) y q ≡ title m y q
-  title_same (block i) q = refl
-  title_same (string t) q = refl
-
-  sized_same : (y : Thing) → Sized m y → Sized (put_field m x k v) y
-  sized_same (block i) h = h
-  sized_same (string t) h = h
-
-  proper_same : (w : Value) → Proper m w → Proper (put_field m x k v) w
-  proper_same null h = tt
-  proper_same (number z) h = tt
-  proper_same (text t) h = tt
-  proper_same (to i t) h = h
-  proper_same (name y j) h = (h.0, let e = fields_same y in let w = h.1 in omega arith)
-
   proper_either : (b : Bool) (w : Value) → Proper m v → Proper m w → Proper m (cond b v w)
   proper_either true w h g = h
   proper_either false w h g = g
@@ -45,8 +23,8 @@ module _ (m : Model) (x : Thing) (k : ℕ) (v : Value) where
   good_put g h =
       record {
         count = g.count;
-        registers = λ r. proper_same (register m r) (g.registers r);
-        held = λ y j. proper_same ((put_field m x k v).field y j) (proper_either (same_thing x y && eqb k j) (m.field y j) h (g.held y j));
+        registers = λ r. proper_same m (put_field m x k v) refl (register m r) (g.registers r);
+        held = λ y j. proper_same m (put_field m x k v) refl ((put_field m x k v).field y j) (proper_either (same_thing x y && eqb k j) (m.field y j) h (g.held y j));
       }
 
   -- The field itself, and every other.
@@ -73,22 +51,17 @@ module _ (m : Model) (a : Arena) (o : Memory) (snd : Sound o) (x : Thing) (k cel
 
   old_at : (y : Thing) (q : ℕ) → At m a o y q → At (put_field m x k v) a r y q
   old_at y q l =
-      subst (λ (c : ℕ). Lies (size c m') a.bins a.order y q) (sym places_same) (lies_like (size o.figures.places m) (size o.figures.places m') (λ z h. size_same m x k v _ z) l)
+      subst (λ (c : ℕ). Lies (size c m') a.bins a.order y q) (sym places_same) (lies_like (size o.figures.places m) (size o.figures.places m') (λ z h. size_same m (put_field m x k v) refl _ z) l)
 
   was_at : (y : Thing) (q : ℕ) → At (put_field m x k v) a r y q → At m a o y q
   was_at y q l =
-      lies_like (size o.figures.places m') (size o.figures.places m) (λ z h. sym (size_same m x k v _ z)) (subst (λ (c : ℕ). Lies (size c m') a.bins a.order y q) places_same l)
+      lies_like (size o.figures.places m') (size o.figures.places m) (λ z h. sym (size_same m (put_field m x k v) refl _ z)) (subst (λ (c : ℕ). Lies (size c m') a.bins a.order y q) places_same l)
 
   codes_still : (u : Value) (e : Descriptor) → Codes m a o u e → Codes (put_field m x k v) a r u e
-  codes_still u e as_null = as_null
-  codes_still u e as_number = as_number
-  codes_still u e (as_text l) = as_text (old_at _ _ l)
-  codes_still u e (as_block l) = as_block (old_at _ _ l)
-  codes_still u e (as_name l) = as_name (old_at _ _ l)
+  codes_still = coded_by old_at
 
   links_still : (n : ℕ) (ts : List Text) (e : Descriptor) → Links m a o n ts e → Links (put_field m x k v) a r n ts e
-  links_still n ts e (at_end z) = at_end z
-  links_still n ts e (to_next p l z) = to_next p (old_at _ _ l) z
+  links_still = linked_by old_at
 
   -- Every other cell of a thing.
   other_cell : (y : Thing) (q j : ℕ) → At m a o y q → j < size o.figures.places m y → (y ≡ x → j ≢ k) → q + j ≢ cell
@@ -103,14 +76,14 @@ module _ (m : Model) (a : Arena) (o : Memory) (snd : Sound o) (x : Thing) (k cel
   laid_stored : Laid (put_field m x k v) a r
   laid_stored =
       record {
-        «end» = rw places_same (let e = sh.laid.end in let z = total_like (size o.figures.places m) (size o.figures.places m') a.order (λ y h. size_same m x k v _ y) in omega arith);
+        «end» = rw places_same (let e = sh.laid.end in let z = total_like (size o.figures.places m) (size o.figures.places m') a.order (λ y h. size_same m (put_field m x k v) refl _ y) in omega arith);
         within = rw w.figures sh.laid.within;
         titled = λ y q l. (let lo = was_at y q l in
             let z : q + 0 ≡ q = omega arith in
             let n = other_cell y q 0 lo (let u = fields_size o.figures.places m y in omega arith) (λ e g. let u = f.some in omega arith) in
-            w.descriptors q (λ e. n (z ∙ e)) ∙ sh.laid.titled y q lo ∙ sym (title_same m x k v y q));
+            w.descriptors q (λ e. n (z ∙ e)) ∙ sh.laid.titled y q lo ∙ sym (title_same m (put_field m x k v) refl y q));
         coded = λ y q j l j1 j2. (let lo = was_at y q l in
-            let j3 : j ≤ fields m y = (let e = fields_same m x k v y in omega arith) in
+            let j3 : j ≤ fields m y = (let e = fields_same m (put_field m x k v) refl y in omega arith) in
             ⊎_elim (λ e. here y q j lo (value_here m x k v y j e)) (λ e. there y q j lo j1 j3 (value_there m x k v y j e)) (cases_Bool (same_thing x y && eqb k j)));
       }
     where
@@ -136,7 +109,7 @@ module _ (m : Model) (a : Arena) (o : Memory) (snd : Sound o) (x : Thing) (k cel
         few_bins = sh.lawful.few_bins;
         good = good_put m x k v sh.lawful.good pr;
         once = sh.lawful.once;
-        sized = λ y h. sized_same m x k v y (sh.lawful.sized y h);
+        sized = λ y h. sized_same m (put_field m x k v) refl y (sh.lawful.sized y h);
         valued = λ t j j1 j2 n. ⊎_elim
             (λ e. subst (λ (y : Thing). In y a.order) (value_here m x k v (string t) j e).1 (lies_in (size o.figures.places m) f.at))
             (λ e. sh.lawful.valued t j j1 j2 (λ z. n ((value_there m x k v (string t) j e).0 ∙ z))) (cases_Bool (same_thing x (string t) && eqb k j));
@@ -164,11 +137,8 @@ module _ (m : Model) (a : Arena) (o : Memory) (snd : Sound o) (x : Thing) (k cel
   spelled_stored : Spelled (put_field m x k v) a r
   spelled_stored =
       record {
-        spelled = λ t q j l h. rw places_same (let lo = was_at (string t) q l in
-            old_char t q (j / o.figures.places) (j % o.figures.places) lo (last_cell o.figures.places j (length t) snd.one_place h) ∙ sh.spelled.spelled t q j lo h);
-        padded = λ t q j l h. rw (places_same, ap (λ (g : Figures). g.lowest) w.figures) (λ u. let lo = was_at (string t) q l in
-            old_char t q (j / o.figures.places) (j % o.figures.places) lo
-            (let b = (div-lt_iff_lt-mul {x = j} {y = string_cells o.figures.places (length t) - (2 + string_fields)} snd.one_place).1 u in omega arith) ∙ sh.spelled.padded t q j lo h u);
+        spelled = λ t q j l h. rw places_same (spelled_still m a o snd sh r old_char t q j (was_at (string t) q l) h);
+        padded = λ t q j l h. rw (places_same, ap (λ (g : Figures). g.lowest) w.figures) (padded_still m a o snd sh r old_char t q j (was_at (string t) q l) h);
       }
 
   pub field_stored : Stored m a o x k v r

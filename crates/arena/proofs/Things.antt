@@ -1,5 +1,5 @@
 -- Things in an order, and texts in a chain.
-use Rattle.std.proofs.Common.{◌≡◌, ℕ, suc, ◌+◌, ◌-◌, ◌*◌, ◌/◌, ◌%◌, ◌<◌, ◌≤◌, List, [], ◌∷◌, length, get_or, sym, refl, ap, subst, inl, inr, ⊎_elim, mod-lt, div-lt_iff_lt-mul, add-mul, arith}
+use Rattle.std.proofs.Common.{◌≡◌, ℕ, ◌+◌, ◌-◌, ◌*◌, ◌/◌, ◌%◌, ◌<◌, ◌≤◌, List, [], ◌∷◌, length, sym, refl, ap, subst, inl, inr, ⊎_elim, mod-lt, div-lt_iff_lt-mul, add-mul, arith}
 use native.Mathlib.Nat.{lt-div-mul-add}
 use Rattle.cells.specs.declared.Descriptor.{Descriptor}
 use Rattle.rules.specs.Lists.{In, Once, total}
@@ -78,16 +78,6 @@ rises_all f (x ∷ xs) t rest u ri (arena.later n) h = rises_all f xs t rest u (
 pub linked_kind : (s : Thing → ℕ) (from : ℕ) (order : List Thing) (n : ℕ) (xs : List Text) (d : Descriptor) → Linked s from order n xs d → d.kind ≡ n
 linked_kind s from order n xs d (at_end e) = ap (λ (x : Descriptor). x.kind) e
 linked_kind s from order n xs d (to_next p l e) = ap (λ (x : Descriptor). x.kind) e
-
--- Lists of one length with equal elements are equal.
-pub list_same : (xs ys : List ℕ) → length xs ≡ length ys → ((j : ℕ) → j < length ys → get_or xs j 0 ≡ get_or ys j 0) → xs ≡ ys
-list_same [] [] e f = refl
-list_same [] (y ∷ ys) e f = absurd (omega arith)
-list_same (x ∷ xs) [] e f = absurd (omega arith)
-list_same (x ∷ xs) (y ∷ ys) e f =
-    let i : x ≡ y = f 0 (omega arith) in
-    let j = list_same xs ys (omega arith) (λ j h. f (suc j) (omega arith)) in
-    cc
 
 -- The cell of a character lies in its string.
 pub last_cell : (c j n : ℕ) → 1 ≤ c → j < n → 4 + j / c < string_cells c n

@@ -8,6 +8,7 @@ use Rattle.rules.specs.Model.{Text, Thing, string, Model, size, string_fields}
 use Rattle.rules.specs.Arena.{desc, Next, now, Arena, at_end, to_next, At, Links, Shows}
 use Rattle.rules.specs.Arena as arena
 use Rattle.rules.proofs.Lies.{lies_one}
+use Rattle.arena.proofs.Alike.{linked_by}
 use Rattle.arena.proofs.Things.{string_same, size_some, one_there, next_in, linked_kind}
 use Rattle.arena.proofs.Spots.{Spot, spot_end, spot_here, spot_later, spot_where}
 
@@ -21,8 +22,7 @@ module _ (m : Model) (a a' : Arena) (o r : Memory) (t : Text) (c : ℕ) (sh : Sh
     (own : r.descriptor (a.«next» + 1 + string_fields) ≡ desc (o.descriptor c).value (o.descriptor c).flags (ascension a.bins t))
     (kept : (u : Text) (q : ℕ) → At m a o (string u) q → q + 1 + string_fields ≢ c → r.descriptor (q + 1 + string_fields) ≡ o.descriptor (q + 1 + string_fields)) where
   still : (n : ℕ) (xs : List Text) (d : Descriptor) → Links m a o n xs d → Links m a' r n xs d
-  still n xs d (at_end e) = at_end e
-  still n xs d (to_next q l e) = to_next q (old _ q l) e
+  still = linked_by old
 
   to_new : (n : ℕ) (xs ws : List Text) (cell : ℕ) → cell ≡ c → Links m a o n xs (o.descriptor cell) → Links m a' r n (t ∷ ws) (r.descriptor cell)
   to_new n xs ws cell e k =

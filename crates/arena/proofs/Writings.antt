@@ -1,13 +1,12 @@
 -- The cells of a new string, as they are written.
-use Rattle.std.proofs.Common.{◌≡◌, ℕ, ◌+◌, ◌-◌, ◌*◌, ◌/◌, ◌%◌, ◌<◌, ◌≤◌, Bool, true, false, cond, ltb, ◌≢◌, List, length, get_or, pos, sym, refl, ap, ◌∙◌, subst, inl, inr, ⊎_elim, mod-lt, div-lt_iff_lt-mul, arith, ltb-true}
+use Rattle.std.proofs.Common.{◌≡◌, ℕ, ◌+◌, ◌-◌, ◌*◌, ◌/◌, ◌%◌, ◌<◌, ◌≤◌, Bool, true, false, cond, ltb, ◌≢◌, List, length, get_or, pos, sym, refl, ap, ◌∙◌, subst, ⊎_elim, mod-lt, div-lt_iff_lt-mul, arith, ltb-true}
 use native.Mathlib.Nat.{div-add-mod}
 use Rattle.cells.specs.declared.Descriptor.{Descriptor}
 use Rattle.cells.specs.Meaning.{Memory, Figures, FitDescriptor, FitCode, WroteDescriptor, WroteCharacter}
 use Rattle.rules.specs.Model.{string_fields, string_cells}
 use Rattle.rules.specs.Arena.{desc, null_desc}
-use Rattle.arena.specs.Blocks.{Headed}
-use Rattle.arena.specs.Enters.{code_at, Takes, Writing, Framed, Written, Entered}
-use Rattle.arena.proofs.Cells.{same, apart, compare_cells}
+use Rattle.arena.specs.Enters.{code_at, Takes, Framed, Writing, Written, Entered}
+use native.Mathlib.Decide.{ℕ_discrete}
 
 -- A place of a cell is told by both of its numbers.
 place_same : (c j k : ℕ) → j / c ≡ k / c → j % c ≡ k % c → j ≡ k
@@ -21,9 +20,6 @@ code_fits t f j o h = by (ltb j (length t)) refl
     by false e = (omega arith, o)
 
 module _ (o : Memory) (p rows : ℕ) (t : List ℕ) where
-  pub writing_none : Writing o p rows t 0 o
-  writing_none = record { figures = refl; done = λ j l. absurd (omega arith); descriptors = λ c l. refl; characters = λ c j l. refl }
-
   module _ (k : ℕ) (r : Memory) (s : Writing o p rows t k r) (one : 1 ≤ o.figures.places) (l : k < rows * o.figures.places) where
     row : k / o.figures.places < rows
     row = (div-lt_iff_lt-mul one).1 l
@@ -32,13 +28,13 @@ module _ (o : Memory) (p rows : ℕ) (t : List ℕ) where
     more_core x r' e w =
         record {
           figures = w.figures ∙ s.figures;
-          done = λ j h. elim (compare_cells j k) [
-            | same z ↦ rw z (w.here ∙ e)
-            | apart z ↦ elim (compare_cells (j / o.figures.places) (k / o.figures.places)) [
-              | same y ↦ (let n : j % o.figures.places ≢ k % o.figures.places = λ u. z (place_same o.figures.places j k y u) in
+          done = λ j h. elim (ℕ_discrete j k) [
+            | yes z ↦ rw z (w.here ∙ e)
+            | no z ↦ elim (ℕ_discrete (j / o.figures.places) (k / o.figures.places)) [
+              | yes y ↦ (let n : j % o.figures.places ≢ k % o.figures.places = λ u. z (place_same o.figures.places j k y u) in
                   ap (λ (i : ℕ). r'.character (p + i) (j % o.figures.places)) y ∙ w.places (j % o.figures.places) n
                   ∙ ap (λ (i : ℕ). r.character (p + i) (j % o.figures.places)) (sym y) ∙ s.done j (omega arith))
-              | apart y ↦ w.characters (p + j / o.figures.places) (j % o.figures.places) (omega arith) ∙ s.done j (omega arith)
+              | no y ↦ w.characters (p + j / o.figures.places) (j % o.figures.places) (omega arith) ∙ s.done j (omega arith)
             ]
           ];
           descriptors = λ c h. (let y = row in w.descriptors c (⊎_elim (λ u. omega arith) (λ u. omega arith) h) ∙ s.descriptors c h);
@@ -54,19 +50,6 @@ module _ (o : Memory) (p rows : ℕ) (t : List ℕ) where
       writing_more r' w = more_core x r' (rw le at xe)
           (subst (λ (y : ℕ). WroteCharacter r (p + k / y) (k % y) x r') ce (subst (λ (y : ℕ). WroteCharacter r y (k % c) x r') qe w))
 
--- Title, fields and link.
-pub framed : (o : Memory) (p n q : ℕ) (d : Descriptor) (r r' : Memory) → Headed o p (desc (pos p) 6 n) string_fields r → q ≡ p + 1 + string_fields → WroteDescriptor r q d r' → Framed o p n d r'
-framed o p n q d r r' h e w =
-    record {
-      figures = w.figures ∙ h.figures;
-      title = w.descriptors p (omega arith) ∙ h.title;
-      value = w.descriptors (p + 1) (omega arith) ∙ h.fields 1 (omega arith) (omega arith);
-      label = w.descriptors (p + 2) (omega arith) ∙ h.fields 2 (omega arith) (omega arith);
-      link = ap (λ (c : ℕ). r'.descriptor c) (sym e) ∙ w.here;
-      descriptors = λ x l. w.descriptors x (⊎_elim (λ y. omega arith) (λ y. omega arith) l) ∙ h.descriptors x (⊎_elim (λ y. inl y) (λ y. inr (omega arith)) l);
-      characters = λ x j l. w.characters x j (⊎_elim (λ y. omega arith) (λ y. omega arith) l) ∙ h.characters x j (⊎_elim (λ y. inl y) (λ y. inr (omega arith)) l);
-    }
-
 -- A cell and a descriptor fit still after writes that keep the figures.
 pub fits_after : (e f : Figures) → f ≡ e → (c : ℕ) (d : Descriptor) → c < e.cells → FitDescriptor e d → (c < f.cells) × FitDescriptor f d
 fits_after e f i c d l h = rw i (l, h)
@@ -77,33 +60,12 @@ null_fits f t e l = rw e (omega arith, l)
 pub pointer_fits : (f : Figures) (t : Descriptor) (p k : ℕ) → t ≡ desc (pos p) 16 k → k ≤ f.largest → FitDescriptor f t
 pointer_fits f t p k e l = rw e (omega arith, l)
 
--- Frame and characters make a string.
-pub written : (o : Memory) (p n rows : ℕ) (t : List ℕ) (d : Descriptor) (r1 r2 : Memory) → n ≡ length t → rows ≡ string_cells o.figures.places (length t) - (2 + string_fields) →
-    Framed o p n d r1 → Writing r1 (p + 2 + string_fields) rows t (rows * r1.figures.places) r2 → Written o p t d r2
-written o p n rows t d r1 r2 ne re f w =
-    record {
-      figures = w.figures ∙ f.figures;
-      title = w.descriptors p (inl (omega arith)) ∙ f.title ∙ ap (λ (x : ℕ). desc (pos p) 6 x) ne;
-      value = w.descriptors (p + 1) (inl (omega arith)) ∙ f.value;
-      label = w.descriptors (p + 2) (inl (omega arith)) ∙ f.label;
-      link = w.descriptors (p + 1 + string_fields) (inl (omega arith)) ∙ f.link;
-      codes = λ j l. (rw f.figures at w.done) j (rw (← re) at l);
-      descriptors = λ x l. w.descriptors x (⊎_elim (λ z. inl (omega arith)) (λ z. inr (omega arith)) l) ∙ f.descriptors x (⊎_elim (λ z. inl z) (λ z. inr (omega arith)) l);
-      characters = λ x j l. w.characters x j (⊎_elim (λ z. inl (omega arith)) (λ z. inr (omega arith)) l) ∙ f.characters x j (⊎_elim (λ z. inl z) (λ z. inr (omega arith)) l);
-    }
-
 -- A string's cells and the pointer to it.
 pub entered : (o : Memory) (p : ℕ) (t : List ℕ) (k c : ℕ) (old : Descriptor) (r1 r2 : Memory) → c < p → old ≡ o.descriptor c →
     Written o p t (desc old.value old.flags k) r1 → WroteDescriptor r1 c (desc (pos p) 16 old.kind) r2 → Entered o p t k c r2
-entered o p t k c old r1 r2 low read w d =
-    record {
-      figures = d.figures ∙ w.figures;
-      title = d.descriptors p (omega arith) ∙ w.title;
-      value = d.descriptors (p + 1) (omega arith) ∙ w.value;
-      label = d.descriptors (p + 2) (omega arith) ∙ w.label;
-      link = d.descriptors (p + 1 + string_fields) (omega arith) ∙ w.link ∙ ap (λ (x : Descriptor). desc x.value x.flags k) read;
-      codes = λ j l. d.characters (p + 2 + string_fields + j / o.figures.places) (j % o.figures.places) (omega arith) ∙ w.codes j l;
-      behind = d.here ∙ ap (λ (x : Descriptor). desc (pos p) 16 x.kind) read;
-      descriptors = λ x l y. d.descriptors x y ∙ w.descriptors x l;
-      characters = λ x j l y. d.characters x j y ∙ w.characters x j l;
-    }
+entered o p t k c old r1 r2 low read w d = grind arith
+
+-- Frame and characters make a string.
+pub written : (o : Memory) (p n q rows : ℕ) (t : List ℕ) (d : Descriptor) (r1 r2 : Memory) → n ≡ length t → q ≡ p + 2 + string_fields → rows ≡ string_cells o.figures.places (length t) - (2 + string_fields) →
+    Framed o p n d r1 → Writing r1 q rows t (rows * r1.figures.places) r2 → Written o p t d r2
+written o p n q rows t d r1 r2 ne qe re f w = grind arith

@@ -1,7 +1,9 @@
 // Titles and pointers: what a descriptor says of its block, and which title a cell belongs to.
-ghost use Rattle.std.specs.Prelude.{◌≡◌, ℕ, ◌+◌, ◌<◌, ◌≤◌, true, false, ◌≢◌, pos, IfOk, Ok};
+ghost use Rattle.std.specs.Prelude.{◌≡◌, ℕ, ◌+◌, ◌<◌, ◌≤◌, true, false, ◌≢◌, ◌^◌, pos, IfOk, Ok, Err};
 ghost use Rattle.rules.specs.Arena.{Arena, desc, null_desc};
 ghost use Rattle.rules.specs.Model.{Model, Thing};
+ghost use Rattle.arena.specs.declared.faults.HeapFault.TheVariants.{Unlawful};
+ghost use Rattle.arena.specs.declared.faults.Rule.{Rule};
 ghost use Rattle.arena.specs.Stored.{Field};
 ghost use Rattle.arena.specs.Titles.{Back, count, with_mark, cells_of, retitled};
 
@@ -31,7 +33,8 @@ pub fn cell_of(d: Descriptor) -> Result<u32, HeapFault>
 
 // A descriptor that holds a cell.
 pub fn with_cell(cell: u32, flags: u8, kind: u32) -> Result<Descriptor, HeapFault>
-    ensures { cell ≤ 65535 → result ≡ Ok (desc (pos cell) flags kind) }
+    ensures holds { cell < 2 ^ 31 → result ≡ Ok (desc (pos cell) flags kind) }
+    ensures beyond { 2 ^ 31 ≤ cell → result ≡ Err (Unlawful Rule.Values cell) }
 {
     let value = i32::try_from(cell).or(Err(HeapFault::Unlawful(Rule::Values, cell)))?;
     Ok(Descriptor { value, flags, kind })

@@ -11,7 +11,7 @@ pub returns : goal.returns
 returns g c room f =
     let snd = g.met.S.Store.sound c.args.store.now in
     let few = snd.few in let s = c.saturating_add.ensures in
-    let te = ok_same _ _ (c.in_ok-title.ensures (omega arith)) in
+    let te = ok_same _ _ (c.in_ok-title.ensures.holds (omega arith)) in
     let e : c.saturating_add.result ≡ c.args.at + 1 = omega arith in
     let w = (descriptor_written _ _ _ _ c.set_descriptor.result c.set_descriptor.ensures.answer (omega arith)
     (subst (λ (d : Descriptor). FitDescriptor (g.S.Store.memory c.args.store.now).figures d) (sym te) f)).1 in

@@ -1,9 +1,9 @@
 use Rattle.std.proofs.Common.{◌≡◌, ℕ, length, Some, Ok, ap, ◌∙◌, arith}
+use Rattle.std.proofs.lemmas.Grind.{common_steps}
 use Rattle.cells.specs.declared.Descriptor.{Descriptor}
 use Rattle.cells.proofs.Acts.{descriptor_read}
-use Rattle.arena.proofs.Outcomes.{ok_same, ok_not_err}
+use Rattle.arena.proofs.Outcomes.{ok_not_err}
 use Rattle.arena.proofs.Findings.{readable, spelt}
-use Rattle.arena.proofs.Copies.{copied_more, copied_all}
 use Rattle.arena.proofs.texts.read_text.Goals as goal
 
 pub returns-in_err-descriptor-clause-shown : goal.returns-in_err-descriptor-clause-shown
@@ -18,19 +18,13 @@ returns-in_err-buffer-clause-shown g c m a t sh l =
     let k = c.text_length-length.ensures ∙ ap (λ (d : Descriptor). d.kind) c.in_ok-descriptor.ensures.1 in
     ok_not_err (c.character_at.ensures re (omega arith)) c.in_err-buffer.was
 
-pub loop-j-preserved : goal.loop-j-preserved
-loop-j-preserved g c t re s =
-    let k = c.text_length-length.ensures ∙ ap (λ (d : Descriptor). d.kind) c.in_ok-descriptor.ensures.1 in
-    let n = s.long in
-    copied_more t c.args.buffer.now _ c.loop-j.j _ (omega arith) (omega arith) (c.loop-j.invariant t re s)
-    (ok_same _ _ (c.in_ok-buffer.ensures re (omega arith)) ∙ s.codes c.loop-j.j (omega arith))
-
 pub returns-clause-spelt : goal.returns-clause-spelt
 returns-clause-spelt g c t re s =
     let n : c.text_length-length.result ≡ length t = c.text_length-length.ensures ∙ ap (λ (d : Descriptor). d.kind) c.in_ok-descriptor.ensures.1 ∙ s.long in
     let k = c.loop-j.auto.j-end in
+    let i = c.loop-j.invariant t re s in
     record {
-      fits = λ h. (ap (λ (i : ℕ). Ok (Some i)) n, copied_all t c.args.buffer.now _ c.loop-j.j (omega arith) (c.loop-j.invariant t re s));
+      fits = λ h. (ap (λ (i : ℕ). Ok (Some i)) n, grind (arith, common_steps));
       short = λ h. absurd (omega arith);
     }
 
