@@ -1,10 +1,7 @@
 -- Pure facts on the steps, cell by cell.
-use Rattle.std.proofs.Common.{◌≡◌, ℕ, ◌+◌, ◌<◌, ◌≤◌, ◌≢◌, sym, refl, ap, ◌∙◌, inl, inr, ⊎_elim, arith}
+use Rattle.std.proofs.Common.{◌≡◌, ℕ, ◌+◌, ◌≤◌, ◌≢◌, refl, ap, ◌∙◌, inl, inr, ⊎_elim, arith}
 use native.Mathlib.Decide.{ℕ_discrete}
-use lib.Bits.{bit_and}
-use Rattle.cells.specs.declared.Descriptor.{Descriptor}
 use Rattle.cells.specs.Meaning.{Memory, Moved}
-use Rattle.arena.specs.Titles.{Back}
 use Rattle.heap.specs.Walks.{Slid}
 
 -- Decide an equation between numbers.
@@ -14,15 +11,6 @@ pub data Same (a b : ℕ) : Type 0 where
 
 pub compare_cells : (a b : ℕ) → Same a b
 compare_cells a b = elim (ℕ_discrete a b) [ yes e ↦ same e | no n ↦ apart n ]
-
--- Going back: where the flag is set it is the title, and where it is not the title lies lower.
-pub at_title : (m : Memory) (p k at : ℕ) (d : Descriptor) → Back m p k → p ≤ at → at ≤ p + k → d ≡ m.descriptor at → bit_and d.flags 2 ≢ 0 → at ≡ p
-at_title m p k at d b low high read set =
-    elim (compare_cells p at) [ same e ↦ sym e | apart n ↦ absurd (set (rw read (b.passed at (omega arith) high))) ]
-
-pub past_title : (m : Memory) (p k at : ℕ) (d : Descriptor) → Back m p k → p ≤ at → d ≡ m.descriptor at → bit_and d.flags 2 ≡ 0 → p < at
-past_title m p k at d b low read clear =
-    elim (compare_cells p at) [ same e ↦ absurd (b.title (rw e (rw read at clear))) | apart n ↦ omega arith ]
 
 -- Cells that stay where they are.
 pub slid_same : (m : Memory) (from to n : ℕ) → to ≡ from → Slid m from to n m

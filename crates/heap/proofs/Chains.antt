@@ -127,16 +127,6 @@ module _ (o : Memory) (ts : List ℕ) (bins end : ℕ) (a : Tiled o ts bins end)
   no_link q c k h e = let l = string_long o.figures.places (o.descriptor q) k.2 in let g = a.gap q c k.0 h (omega arith) in omega arith
 
   module _ (link : ℕ → Descriptor) where
-    pub threading_none : Threading o ts link end bins o
-    threading_none =
-        record {
-          stop = a.start;
-          figures = refl;
-          done = λ q k l. absurd (let x = a.low q k.0 in omega arith);
-          descriptors = λ c n. refl;
-          characters = λ c j n. refl;
-        }
-
     module _ (p : ℕ) (r : Memory) (s : Threading o ts link end p r) where
       pub threading_titles : (q : ℕ) → In q ts → r.descriptor q ≡ o.descriptor q
       threading_titles q h = s.descriptors q (λ x k l. no_link x q k h)

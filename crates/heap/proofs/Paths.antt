@@ -180,9 +180,6 @@ module _ (o : Memory) (ts : List ℕ) (bins end : ℕ) (a : Tiled o ts bins end)
       before : (q u : ℕ) → In q ts → q < p + n → IsMarked o q → To o ts bins q u → q ≢ p → u + len q ≤ t
       before q u hq l mq gq z = to_above q u p t hq mq gq (below_step p q h hq (rw (← e) l) z) go
 
-  pub moving_none : Moving o ts bins end bins o
-  moving_none = record { stop = a.start; packed = packed_none }
-
   pub moving_title : (p : ℕ) (f : Memory) → Moving o ts bins end p f → In p ts → f.descriptor p ≡ o.descriptor p
   moving_title p f s h = s.packed.rest p (inr (omega arith))
 

@@ -80,15 +80,6 @@ module _ (m : Memory) (ts : List ℕ) (ws : List ℕ) (n : ℕ) (o : Memory) (a 
       far i j l k (apart d) (same e) = ne i (omega arith)
       far i j l k (apart d) (apart f) = a.apart i j l (omega arith)
 
-  pub added_old : (q : ℕ) → In q ts → IsMarked o q → Added m ts ws n q ws n o
-  added_old q h z =
-      record {
-        queue = a;
-        grew = record { more = omega arith; kept = λ i k. refl };
-        here = queued q h z;
-        new = λ i k l. absurd (omega arith);
-      }
-
   pub added_new : (q : ℕ) (o' : Memory) → In q ts → IsBare o q → n < length ws → WroteDescriptor o q (with_mark (o.descriptor q)) o' →
       Added m ts ws n q (set ws n q) (n + 1) o'
   added_new q o' h z r w =
@@ -170,15 +161,6 @@ module _ (m : Memory) (ts : List ℕ) (ws : List ℕ) (n : ℕ) (o : Memory) (a 
           | inr l ↦ absurd (b.title (c.passed q l (omega arith)))
         ]
       ]
-
-  pub visited_none : (d : Descriptor) → d.flags ≡ 0 → Visited m ts ws n d ws n o
-  visited_none d z =
-      record {
-        queue = a;
-        grew = record { more = omega arith; kept = λ i k. refl };
-        here = λ q p. absurd (let e = p.flag in omega arith);
-        new = λ i k l. absurd (omega arith);
-      }
 
   pub visited_one : (d : Descriptor) (q t : ℕ) (ws' : List ℕ) (n' : ℕ) (o' : Memory) → Aims m ts d q → t ≡ q → Added m ts ws n t ws' n' o' → Visited m ts ws n d ws' n' o'
   visited_one d q t ws' n' o' p e v =

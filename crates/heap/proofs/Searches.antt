@@ -6,7 +6,7 @@ use Rattle.cells.specs.Meaning.{Memory}
 use Rattle.rules.specs.Lists.{In}
 use Rattle.heap.specs.declared.blocks.Block.{Block}
 use Rattle.heap.specs.declared.blocks.Blocks.{Blocks}
-use Rattle.heap.specs.Marks.{still, marked, Queue, Holding}
+use Rattle.heap.specs.Marks.{still, marked, Holding}
 use Rattle.heap.specs.Walks.{length_at, Tiled, Searched}
 use Rattle.heap.specs.Blocks.{Standing}
 use Rattle.heap.proofs.Cells.{same, apart, compare_cells}
@@ -16,16 +16,6 @@ use Rattle.heap.proofs.Paths.{lower, next_stop}
 use Rattle.heap.proofs.Took.{Took}
 
 module _ (m : Memory) (ts : List ℕ) (bins end : ℕ) (a : Tiled m ts bins end) (ws : List ℕ) (n : ℕ) where
-  pub searched_none : (o : Memory) → Queue m ts ws n o → Searched m ts end bins ws n ws n o
-  searched_none o q =
-      record {
-        stop = a.start;
-        queue = q;
-        grew = record { more = omega arith; kept = λ i l. refl };
-        here = λ q k h l. absurd (let x = a.low q h in omega arith);
-        new = λ i k l. absurd (omega arith);
-      }
-
   module _ (w : Blocks) (ws' : List ℕ) (n' : ℕ) (o : Memory) (s : Searched m ts end w.at ws n ws' n' o) where
     -- A mark changes neither the kind nor the length of a title.
     pub standing_marked : w.end ≡ end → Standing m ts bins end w o

@@ -144,19 +144,6 @@ goes_flags m r ws d d' fg fl (value_goes z e) = value_goes z e
 goes_flags m r ws d d' fg fl (pointer_goes q k h e) = pointer_goes q k (hits_flags m r ws d q k fg fl h) e
 
 module _ (o : Memory) (ts ws : List ℕ) (bins end : ℕ) (a : Tiled o ts bins end) where
-  pub relocated_none : Relocated o ts ws bins end bins o
-  relocated_none =
-      record {
-        stop = a.start;
-        figures = refl;
-        flags = λ c. refl;
-        done = λ q k h l. absurd (let x = a.low q h in omega arith);
-        titles = λ q h. refl;
-        rest = λ c l. refl;
-        links = λ q k h l m. refl;
-        tails = λ q k j h l m. refl;
-      }
-
   module _ (w w' : Blocks) (b : Block) (r : Memory) (t : Took o ts w b r w') (s : Relocated o ts ws bins end w.at r) where
     read : b.title ≡ o.descriptor w.at
     read = t.title ∙ s.titles w.at t.here
