@@ -1,5 +1,6 @@
 -- The walk along a chain to the next marked string, and the new heads and links.
 use Rattle.std.proofs.Common.{◌≡◌, ℕ, ◌+◌, ◌<◌, ◌≤◌, Bool, true, false, cond, eqb, ◌≢◌, ◌⊎◌, List, length, get_or, ℤ, pos, sym, refl, ap, ◌∙◌, subst, inl, inr, ⊎_elim, arith, eqb-true}
+use native.Mathlib.Decide.{ℕ_discrete}
 use lib.Bits.{bit_and}
 use Rattle.cells.specs.declared.Descriptor.{Descriptor}
 use Rattle.cells.specs.Meaning.{Memory, Figures, WroteDescriptor, FitDescriptor}
@@ -13,7 +14,6 @@ use Rattle.heap.specs.declared.blocks.Block.{Block}
 use Rattle.heap.specs.declared.blocks.Blocks.{Blocks}
 use Rattle.heap.specs.Walks.{length_at, Tiled}
 use Rattle.heap.specs.Threads.{link_cell, Joins, Leads, to_end, to_kept, past, Led, Leading, MarkedString, Linkable, Threading, Headed, Heading, Rethreaded}
-use Rattle.heap.proofs.Cells.{same, apart, compare_cells}
 use Rattle.heap.proofs.Paths.{less, equal, more, order_of, lower, next_stop, positive}
 use Rattle.heap.proofs.Took.{Took}
 use Rattle.heap.proofs.Values.{count_below}
@@ -175,9 +175,9 @@ module _ (o : Memory) (ts : List ℕ) (bins end : ℕ) (a : Tiled o ts bins end)
             record {
               stop = next_stop o ts bins end a w w' b r t;
               figures = d.figures ∙ s.figures;
-              done = λ q k x. elim (compare_cells q w.at) [
-                | same z ↦ rw z d.here
-                | apart z ↦ d.descriptors (link_cell q) (omega arith) ∙ s.done q k (lower o ts bins end a w w' b r t q k.0 x z)
+              done = λ q k x. elim (ℕ_discrete q w.at) [
+                | yes z ↦ rw z d.here
+                | no z ↦ d.descriptors (link_cell q) (omega arith) ∙ s.done q k (lower o ts bins end a w w' b r t q k.0 x z)
               ];
               descriptors = λ c ne. d.descriptors c (away c ne) ∙ s.descriptors c (λ q k x. ne q k (omega arith));
               characters = λ c j ne. d.characters c j (away c ne) ∙ s.characters c j (λ q k x. ne q k (omega arith));
@@ -203,7 +203,7 @@ module _ (o : Memory) (ts : List ℕ) (bins : ℕ) (low : (q : ℕ) → In q ts 
     heading_more r' w =
         record {
           figures = w.figures ∙ s.figures;
-          done = λ b x. elim (compare_cells b k) [ same z ↦ rw z w.here | apart z ↦ w.descriptors b z ∙ s.done b (omega arith) ];
+          done = λ b x. elim (ℕ_discrete b k) [ yes z ↦ rw z w.here | no z ↦ w.descriptors b z ∙ s.done b (omega arith) ];
           descriptors = λ c x. w.descriptors c (omega arith) ∙ s.descriptors c (omega arith);
           characters = λ c j x. w.characters c j (omega arith) ∙ s.characters c j (omega arith);
         }
@@ -230,7 +230,7 @@ module _ (r : Memory) (ts : List ℕ) (bins end : ℕ) (a : Tiled r ts bins end)
   below_end q h = let x = a.high q h in let p = positive r ts bins end a q in omega arith
 
   two_or : (q : ℕ) → (count (r.descriptor q) ≡ string_fields) ⊎ (bit_and (r.descriptor q).flags 4 ≡ 0)
-  two_or q = elim (compare_cells (bit_and (r.descriptor q).flags 4) 0) [ same z ↦ inr z | apart z ↦ inl (string_two (r.descriptor q) z) ]
+  two_or q = elim (ℕ_discrete (bit_and (r.descriptor q).flags 4) 0) [ yes z ↦ inr z | no z ↦ inl (string_two (r.descriptor q) z) ]
 
   pub rethreaded : Rethreaded r ts bins link head v
   rethreaded =

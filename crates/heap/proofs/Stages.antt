@@ -1,5 +1,6 @@
 -- How one stage of regeneration leads to the next.
 use Rattle.std.proofs.Common.{◌≡◌, ℕ, ◌+◌, ◌<◌, ◌≤◌, ◌⊎◌, List, length, get_or, pos, sym, refl, ap, ◌∙◌, inl, inr, ⊎_elim, arith}
+use native.Mathlib.Decide.{ℕ_discrete}
 use lib.Bits.{bit_and, bit_or}
 use Rattle.cells.specs.declared.Descriptor.{Descriptor}
 use Rattle.cells.specs.Meaning.{Memory}
@@ -12,7 +13,6 @@ use Rattle.heap.specs.Marks.{IsMarked, Aims, Valued, plain, pointer, Queued, sti
 use Rattle.heap.specs.Walks.{length_at, Tiled, To, begin, keep, skip, Tabled, Packed, Forwarded, fixed, moved, Renewed}
 use Rattle.heap.specs.Moves.{Ready, Goes, value_goes, pointer_goes, Relocated, Prepared}
 use Rattle.heap.specs.Moves as moves
-use Rattle.heap.proofs.Cells.{same, apart, compare_cells}
 use Rattle.heap.proofs.Queues.{flags_of, unmarked, queued, back_now, aim_below, lt_or}
 use Rattle.heap.proofs.Scans.{field_now}
 use Rattle.heap.proofs.Paths.{to_low, positive}
@@ -23,9 +23,9 @@ use Rattle.heap.proofs.Chains.{string_long}
 -- Two titles before one cell are one.
 back_one : (m : Memory) (q k r j : ℕ) → Back m q k → Back m r j → q + k ≡ r + j → q ≡ r
 back_one m q k r j b c e =
-    elim (compare_cells q r) [
-      | same x ↦ x
-      | apart n ↦ elim (lt_or q r n) [
+    elim (ℕ_discrete q r) [
+      | yes x ↦ x
+      | no n ↦ elim (lt_or q r n) [
         | inl l ↦ absurd (c.title (b.passed r l (omega arith)))
         | inr l ↦ absurd (b.title (c.passed q l (omega arith)))
       ]

@@ -1,5 +1,6 @@
 -- Values and their new descriptors.
 use Rattle.std.proofs.Common.{◌≡◌, ℕ, ◌+◌, ◌-◌, ◌<◌, ◌≤◌, Bool, true, false, cond, eqb, ◌≢◌, ◌⊎◌, List, length, get_or, set, pos, Ok, Result, sym, refl, ap, ◌∙◌, subst, inl, inr, ⊎_elim, arith, length-set, get_or-set_other, get_or-set_same}
+use native.Mathlib.Decide.{ℕ_discrete}
 use lib.Bits.{bit_and}
 use Rattle.std.proofs.lemmas.List.{get_or_default}
 use Rattle.cells.specs.declared.Descriptor.{Descriptor}
@@ -13,7 +14,6 @@ use Rattle.heap.specs.declared.blocks.Block.{Block}
 use Rattle.heap.specs.declared.blocks.Blocks.{Blocks}
 use Rattle.heap.specs.Walks.{length_at, Tiled}
 use Rattle.heap.specs.Moves.{Hits, Ready, value, pointer, Goes, value_goes, pointer_goes, Relocating, Relocated, Prepared, Shifting}
-use Rattle.heap.proofs.Cells.{same, apart, compare_cells}
 use Rattle.heap.proofs.Paths.{less, equal, more, order_of, lower, next_stop}
 use Rattle.heap.proofs.Took.{Took}
 
@@ -29,16 +29,6 @@ hits_flags m r ws d q i fg fl h =
       back = back_flags m r q i fl h.back;
       listed = h.listed;
       small = h.small;
-    }
-
-pub relocating_none : (m : Memory) (ws : List ℕ) (p : ℕ) → Relocating m ws p (p + 1 - (p + 1)) m
-relocating_none m ws p =
-    record {
-      figures = refl;
-      flags = λ c. refl;
-      done = λ j l. absurd (let z : p + 1 - (p + 1) ≡ 0 = omega arith in omega arith);
-      rest = λ c l. refl;
-      rest_characters = λ c j l. refl;
     }
 
 pub ready_field : (m : Memory) (ws : List ℕ) (p n : ℕ) → ((k : ℕ) → k < n → Ready m ws (m.descriptor (p + 1 + k))) → (c : ℕ) → p < c → c < p + 1 + n → Ready m ws (m.descriptor c)
@@ -60,13 +50,13 @@ module _ (m : Memory) (ws : List ℕ) (p c : ℕ) (low : p < c) (r : Memory) (s 
   relocating_more d d' r' e fl go w =
       record {
         figures = w.figures ∙ s.figures;
-        flags = λ i. elim (compare_cells i c) [
-          | same z ↦ rw z (ap (λ (x : Descriptor). x.flags) w.here ∙ fl ∙ ap (λ (x : Descriptor). x.flags) e)
-          | apart z ↦ ap (λ (x : Descriptor). x.flags) (w.descriptors i z) ∙ s.flags i
+        flags = λ i. elim (ℕ_discrete i c) [
+          | yes z ↦ rw z (ap (λ (x : Descriptor). x.flags) w.here ∙ fl ∙ ap (λ (x : Descriptor). x.flags) e)
+          | no z ↦ ap (λ (x : Descriptor). x.flags) (w.descriptors i z) ∙ s.flags i
         ];
-        done = λ j l. elim (compare_cells (p + 1 + j) c) [
-          | same z ↦ rw (z, w.here, ← e) go
-          | apart z ↦ rw (w.descriptors (p + 1 + j) z) (s.done j (omega arith))
+        done = λ j l. elim (ℕ_discrete (p + 1 + j) c) [
+          | yes z ↦ rw (z, w.here, ← e) go
+          | no z ↦ rw (w.descriptors (p + 1 + j) z) (s.done j (omega arith))
         ];
         rest = λ i l. w.descriptors i (⊎_elim (λ x. omega arith) (λ x. omega arith) l) ∙ s.rest i (⊎_elim (λ x. inl x) (λ x. inr (omega arith)) l);
         rest_characters = λ i j l. w.characters i j (⊎_elim (λ x. omega arith) (λ x. omega arith) l) ∙ s.rest_characters i j (⊎_elim (λ x. inl x) (λ x. inr (omega arith)) l);
@@ -78,9 +68,9 @@ module _ (m : Memory) (ws : List ℕ) (p c : ℕ) (low : p < c) (r : Memory) (s 
       record {
         figures = s.figures;
         flags = s.flags;
-        done = λ j l. elim (compare_cells (p + 1 + j) c) [
-          | same x ↦ rw (x, read_field) (by _ (rw e at z) y)
-          | apart x ↦ s.done j (omega arith)
+        done = λ j l. elim (ℕ_discrete (p + 1 + j) c) [
+          | yes x ↦ rw (x, read_field) (by _ (rw e at z) y)
+          | no x ↦ s.done j (omega arith)
         ];
         rest = λ i l. s.rest i (⊎_elim (λ x. inl x) (λ x. inr (omega arith)) l);
         rest_characters = λ i j l. s.rest_characters i j (⊎_elim (λ x. inl x) (λ x. inr (omega arith)) l);
@@ -181,10 +171,10 @@ module _ (o : Memory) (ts ws : List ℕ) (bins end : ℕ) (a : Tiled o ts bins e
             stop = next_stop o ts bins end a w w' b r t;
             figures = g.figures ∙ s.figures;
             flags = λ c. g.flags c ∙ s.flags c;
-            done = λ q k h x mq y. elim (compare_cells q w.at) [
-              | same z ↦ rw z (let y' : k < count b.title = rw (ap count read, ← z) y in
+            done = λ q k h x mq y. elim (ℕ_discrete q w.at) [
+              | yes z ↦ rw z (let y' : k < count b.title = rw (ap count read, ← z) y in
                   rw (s.rest (w.at + 1 + k) (inr (omega arith))) at (goes_flags r o ws _ _ (sym s.figures) (λ c. sym (s.flags c)) (g.done k y')))
-              | apart z ↦ (let u = lower o ts bins end a w w' b r t q h x z in let v = a.gap q w.at h t.here u in let n = count_below o.figures.places (o.descriptor q) in
+              | no z ↦ (let u = lower o ts bins end a w w' b r t q h x z in let v = a.gap q w.at h t.here u in let n = count_below o.figures.places (o.descriptor q) in
                   rw (g.rest (q + 1 + k) (inl (omega arith))) (s.done q k h u mq y))
             ];
             titles = λ q h. g.rest q (side q h) ∙ s.titles q h;
@@ -214,9 +204,6 @@ forward_one m ws d e res x pl mo y = subst (λ (e : Descriptor). Ready m ws e �
     by (pointer q i h) = (desc (pos (get_or ws q 0 + i)) 16 d.kind, mo q i h, pointer_goes q i h refl)
 
 module _ (o : Memory) (ws : List ℕ) (rs : List Descriptor) where
-  pub shifting_none : Shifting o ws rs 0 rs
-  shifting_none = record { same_length = refl; done = λ i l. absurd (omega arith); rest = λ i l. refl }
-
   pub shifting_read : (k : ℕ) (rs' : List Descriptor) (x : Descriptor) → Shifting o ws rs k rs' → k < length rs' → get_or rs' k x ≡ get_or rs k null_desc
   shifting_read k rs' x s l = get_or_default rs' k x null_desc l ∙ s.rest k (omega arith)
 
@@ -224,9 +211,9 @@ module _ (o : Memory) (ws : List ℕ) (rs : List Descriptor) where
   shifting_more k rs' d' s l go =
       record {
         same_length = length-set rs' k d' ∙ s.same_length;
-        done = λ i x. elim (compare_cells i k) [
-          | same z ↦ rw (z, get_or-set_same rs' k d' null_desc l) go
-          | apart z ↦ rw (get_or-set_other rs' k i d' null_desc z) (s.done i (omega arith))
+        done = λ i x. elim (ℕ_discrete i k) [
+          | yes z ↦ rw (z, get_or-set_same rs' k d' null_desc l) go
+          | no z ↦ rw (get_or-set_other rs' k i d' null_desc z) (s.done i (omega arith))
         ];
         rest = λ i x. get_or-set_other rs' k i d' null_desc (omega arith) ∙ s.rest i (omega arith);
       }
