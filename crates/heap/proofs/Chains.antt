@@ -25,9 +25,6 @@ clear : {A : Type 0} (f : ℕ) → f ≡ 0 → bit_and f 16 ≢ 0 → A
 clear f e z = absurd (z (rw e refl))
 
 module _ (o : Memory) (ts ws : List ℕ) where
-  pub leading_none : (d d' : Descriptor) (n : ℕ) → o.figures.cells ≤ n → Led o ts ws d d' → Leading o ts ws d.kind d' d n
-  leading_none d d' n l s = record { turns = s.turns; few = let f = s.few in omega arith; leads = s.leads }
-
   module _ (k : ℕ) (d' d : Descriptor) (left : ℕ) (s : Leading o ts ws k d' d left) where
     -- The chain ends,
     pub leading_end : bit_and d.flags 16 ≡ 0 → desc (pos 0) 0 k ≡ d'
@@ -187,9 +184,6 @@ module _ (o : Memory) (ts : List ℕ) (bins end : ℕ) (a : Tiled o ts bins end)
             away c ne z = ne w.at keeps_here (let y = positive o ts bins end a w.at in let i = t.onward in omega arith) (sym z)
 
 module _ (o : Memory) (ts : List ℕ) (bins : ℕ) (low : (q : ℕ) → In q ts → bins ≤ q) (head : ℕ → Descriptor) where
-  pub heading_none : Heading o head 0 o
-  heading_none = record { figures = refl; done = λ b l. absurd (omega arith); descriptors = λ c l. refl; characters = λ c j l. refl }
-
   module _ (k : ℕ) (r : Memory) (s : Heading o head k r) (l : k < bins) where
     pub heading_led : (ws : List ℕ) → Headed o ts ws bins head → Led r ts ws (r.descriptor k) (head k)
     heading_led ws h =

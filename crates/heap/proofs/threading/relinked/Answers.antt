@@ -1,12 +1,9 @@
 use Rattle.std.proofs.Common.{pos, Ok, sym, ap, ◌∙◌, arith}
 use Rattle.cells.proofs.Acts.{descriptor_read}
 use Rattle.heap.proofs.Outcomes.{ok_same, ok_not_err}
-use Rattle.heap.proofs.Chains.{leading_none, leading_end, leading_joins, leading_kept, leading_more}
+use Rattle.heap.proofs.Chains.{leading_end, leading_joins, leading_kept, leading_more}
 use Rattle.heap.proofs.threading.relinked.Goals as goal
 use Rattle.heap.proofs.threading.relinked.Goals.{else-loop-test, then-loop-test+else-not-is_pointer+in_ok-at+in_ok-t+else-is_marked+in_ok-link+else-counter-end}
-
-pub loop-init : goal.loop-init
-loop-init g c ts d' w = leading_none _ ts _ _ d' _ (omega arith) w
 
 pub returns-then-not-is_pointer : goal.returns-then-not-is_pointer
 returns-then-not-is_pointer g c ts d' w = ap Ok (c.last_link.ensures ∙ leading_end _ ts _ _ d' c.loop.link _ (c.loop.invariant ts d' w) (c.is_pointer.ensures.no c.if-not-is_pointer.true))
