@@ -239,20 +239,3 @@ module _ (r : Memory) (ts : List ℕ) (bins end : ℕ) (a : Tiled r ts bins end)
         tails = λ q k j h l m. (let i = a.low q h in
             hd.characters (q + k) j (omega arith) ∙ th.characters (q + k) j (elsewhere q k h m (⊎_elim (λ t. inl (omega arith)) (λ t. inr t) (two_or q))));
       }
-
-  pub tiled_rethreaded : Tiled v ts bins end
-  tiled_rethreaded =
-      record {
-        start = a.start;
-        step = λ p h. rw (len p h) (a.step p h);
-        gap = λ p q h k l. rw (len p h) (a.gap p q h k l);
-        low = a.low;
-        high = λ p h. rw (len p h) (a.high p h);
-        some = λ p h. rw (rethreaded.titles p h) (a.some p h);
-        few = λ p h. rw (rethreaded.titles p h) (a.few p h);
-        within = rw rethreaded.figures a.within;
-        places = rw rethreaded.figures a.places;
-      }
-    where
-      len : (p : ℕ) → In p ts → length_at v p ≡ length_at r p
-      len p h = rw (rethreaded.titles p h, rethreaded.figures) refl

@@ -25,8 +25,13 @@ flags_of f h =
     (λ e. rw e (record { clear = refl; set = omega arith; title = omega arith; title_still = omega arith; small = omega arith; alike = refl }))
     (λ e. rw e (record { clear = refl; set = omega arith; title = omega arith; title_still = omega arith; small = omega arith; alike = refl })) h
 
-pub lt_or : (a b : ℕ) → a ≢ b → (a < b) ⊎ (b < a)
-lt_or a b n = elim (dec_lt a b) [ yes l ↦ inl l | no k ↦ inr (omega arith) ]
+-- Two titles before one cell are one.
+pub back_one : (m : Memory) (q k r j : ℕ) → Back m q k → Back m r j → q + k ≡ r + j → q ≡ r
+back_one m q k r j b c e =
+    elim (ℕ_discrete q r) [
+      | yes x ↦ x
+      | no n ↦ elim (dec_lt q r) [ yes l ↦ absurd (c.title (b.passed r l (omega arith))) | no l ↦ absurd (b.title (c.passed q (omega arith) (omega arith))) ]
+    ]
 
 either : (i n : ℕ) → Dec (i ≡ n) → ℕ → ℕ → ℕ
 either i n (yes e) x y = x
@@ -150,16 +155,7 @@ module _ (m : Memory) (ts : List ℕ) (ws : List ℕ) (n : ℕ) (o : Memory) (a 
 
   -- A pointer has one title.
   pub one_title : (d : Descriptor) (q r : ℕ) → Aims m ts d q → Aims m ts d r → q ≡ r
-  one_title d q r p s =
-      let b = back_now d q p in let c = back_now d r s in
-      let e = pos_inj _ _ (sym p.value ∙ s.value) in
-      elim (ℕ_discrete q r) [
-        | yes x ↦ x
-        | no n ↦ elim (lt_or q r n) [
-          | inl l ↦ absurd (c.title (b.passed r l (omega arith)))
-          | inr l ↦ absurd (b.title (c.passed q l (omega arith)))
-        ]
-      ]
+  one_title d q r p s = back_one o q p.distance r s.distance (back_now d q p) (back_now d r s) (pos_inj _ _ (sym p.value ∙ s.value))
 
   pub visited_one : (d : Descriptor) (q t : ℕ) (ws' : List ℕ) (n' : ℕ) (o' : Memory) → Aims m ts d q → t ≡ q → Added m ts ws n t ws' n' o' → Visited m ts ws n d ws' n' o'
   visited_one d q t ws' n' o' p e v =
