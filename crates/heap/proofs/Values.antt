@@ -39,9 +39,6 @@ module _ (m : Memory) (ws : List ℕ) (p c : ℕ) (low : p < c) (r : Memory) (s 
   field : p + 1 + (c - (p + 1)) ≡ c
   field = omega arith
 
-  hits_now : (d : Descriptor) (q i : ℕ) → Hits m ws d q i → Hits r ws d q i
-  hits_now d q i h = hits_flags m r ws d q i s.figures s.flags h
-
   pub read_field : r.descriptor c ≡ m.descriptor c
   read_field = s.rest c (inr (omega arith))
 
@@ -80,18 +77,30 @@ module _ (m : Memory) (ws : List ℕ) (p c : ℕ) (low : p < c) (r : Memory) (s 
       by e z (value f) = value_goes f refl
       by e z (pointer q i h) = absurd (let w : bit_and 16 16 ≡ 0 = rw h.flag at z in omega arith)
 
+ready_flags : (m r : Memory) (ws : List ℕ) (d : Descriptor) → r.figures ≡ m.figures → ((c : ℕ) → (r.descriptor c).flags ≡ (m.descriptor c).flags) → Ready m ws d → Ready r ws d
+ready_flags m r ws d fg fl (value z) = value z
+ready_flags m r ws d fg fl (pointer q k h) = pointer q k (hits_flags m r ws d q k fg fl h)
+
+goes_flags : (m r : Memory) (ws : List ℕ) (d d' : Descriptor) → r.figures ≡ m.figures → ((c : ℕ) → (r.descriptor c).flags ≡ (m.descriptor c).flags) → Goes m ws d d' → Goes r ws d d'
+goes_flags m r ws d d' fg fl (value_goes z e) = value_goes z e
+goes_flags m r ws d d' fg fl (pointer_goes q k h e) = pointer_goes q k (hits_flags m r ws d q k fg fl h) e
+
 -- What `forward` gives, from its two clauses.
 pub record Came (m : Memory) (ws : List ℕ) (d d' : Descriptor) : Type 0 where
   pub goes : Goes m ws d d'
   pub flags : d'.flags ≡ d.flags
   pub kind : d'.kind ≡ d.kind
 
-pub came_value : (m : Memory) (ws : List ℕ) (d d' : Descriptor) → d.flags ≡ 0 → d' ≡ d → Came m ws d d'
-came_value m ws d d' z e = record { goes = value_goes z e; flags = ap (λ (x : Descriptor). x.flags) e; kind = ap (λ (x : Descriptor). x.kind) e }
+came : (m : Memory) (ws : List ℕ) (d : Descriptor) (res : Result Descriptor HeapFault) → (d.flags ≡ 0 → res ≡ Ok d) →
+    ((q i : ℕ) → Hits m ws d q i → res ≡ Ok (desc (pos (get_or ws q 0 + i)) 16 d.kind)) → Ready m ws d → (d' : Descriptor) × (res ≡ Ok d') × Came m ws d d'
+came m ws d res pl mo (value z) = (d, pl z, record { goes = value_goes z refl; flags = refl; kind = refl })
+came m ws d res pl mo (pointer q i h) = (desc (pos (get_or ws q 0 + i)) 16 d.kind, mo q i h, record { goes = pointer_goes q i h refl; flags = sym h.flag; kind = refl })
 
-pub came_pointer : (m : Memory) (ws : List ℕ) (d d' : Descriptor) (q k : ℕ) → Hits m ws d q k → d' ≡ desc (pos (get_or ws q 0 + k)) 16 d.kind → Came m ws d d'
-came_pointer m ws d d' q k h e =
-    record { goes = pointer_goes q k h e; flags = ap (λ (x : Descriptor). x.flags) e ∙ sym h.flag; kind = ap (λ (x : Descriptor). x.kind) e }
+-- A register and what `forward` gives for it.
+pub forward_one : (m : Memory) (ws : List ℕ) (d e : Descriptor) (res : Result Descriptor HeapFault) → d ≡ e → (d.flags ≡ 0 → res ≡ Ok d) →
+    ((q i : ℕ) → Hits m ws d q i → res ≡ Ok (desc (pos (get_or ws q 0 + i)) 16 d.kind)) → Ready m ws e → (d' : Descriptor) × (res ≡ Ok d') × Goes m ws e d'
+forward_one m ws d e res x pl mo =
+    subst (λ (e : Descriptor). Ready m ws e → (d' : Descriptor) × (res ≡ Ok d') × Goes m ws e d') x (λ y. let w = came m ws d res pl mo y in (w.0, w.1, w.2.goes))
 
 came_small : (m : Memory) (ws : List ℕ) (d d' : Descriptor) → Came m ws d d' → d'.flags ≤ 31
 came_small m ws d d' b = let f = b.flags in by b.goes
@@ -104,11 +113,9 @@ module _ (m : Memory) (ws : List ℕ) (p c : ℕ) (low : p < c) (r : Memory) (s 
   pub forward_gives : (res : Result Descriptor HeapFault) → (d.flags ≡ 0 → res ≡ Ok d) →
       ((q i : ℕ) → Hits r ws d q i → res ≡ Ok (desc (pos (get_or ws q 0 + i)) 16 d.kind)) → Ready m ws (m.descriptor c) →
       (d' : Descriptor) × (res ≡ Ok d') × Came m ws d d'
-  forward_gives res pl mo y = by (rw (← read) at y)
-    where
-      by : Ready m ws d → (d' : Descriptor) × (res ≡ Ok d') × Came m ws d d'
-      by (value z) = (d, pl z, came_value m ws d d z refl)
-      by (pointer q i h) = (desc (pos (get_or ws q 0 + i)) 16 d.kind, mo q i (hits_now m ws p c low r s d q i h), came_pointer m ws d _ q i h refl)
+  forward_gives res pl mo y =
+      let w = came r ws d res pl mo (ready_flags m r ws d s.figures s.flags (rw read y)) in
+      (w.0, w.1, record { goes = goes_flags r m ws d w.0 (sym s.figures) (λ i. sym (s.flags i)) w.2.goes; flags = w.2.flags; kind = w.2.kind })
 
   pub fits_new : (d' : Descriptor) → Came m ws d d' → Sound r → c < m.figures.cells → (c < r.figures.cells) × FitDescriptor r.figures d'
   fits_new d' b snd l =
@@ -124,14 +131,6 @@ count_below c d = by (eqb (bit_and d.flags 4) 0)
     by : (b : Bool) → cond b d.kind string_fields < cond b (d.kind + 1) (string_cells c d.kind)
     by true = omega arith
     by false = omega arith
-
-ready_flags : (m r : Memory) (ws : List ℕ) (d : Descriptor) → r.figures ≡ m.figures → ((c : ℕ) → (r.descriptor c).flags ≡ (m.descriptor c).flags) → Ready m ws d → Ready r ws d
-ready_flags m r ws d fg fl (value z) = value z
-ready_flags m r ws d fg fl (pointer q k h) = pointer q k (hits_flags m r ws d q k fg fl h)
-
-goes_flags : (m r : Memory) (ws : List ℕ) (d d' : Descriptor) → r.figures ≡ m.figures → ((c : ℕ) → (r.descriptor c).flags ≡ (m.descriptor c).flags) → Goes m ws d d' → Goes r ws d d'
-goes_flags m r ws d d' fg fl (value_goes z e) = value_goes z e
-goes_flags m r ws d d' fg fl (pointer_goes q k h e) = pointer_goes q k (hits_flags m r ws d q k fg fl h) e
 
 module _ (o : Memory) (ts ws : List ℕ) (bins end : ℕ) (a : Tiled o ts bins end) where
   module _ (w w' : Blocks) (b : Block) (r : Memory) (t : Took o ts w b r w') (s : Relocated o ts ws bins end w.at r) where
@@ -193,15 +192,6 @@ module _ (o : Memory) (ts ws : List ℕ) (bins end : ℕ) (a : Tiled o ts bins e
             | equal u ↦ inr (let f = ap (λ (c : ℕ). count (o.descriptor c)) u in let g = ap count read in omega arith)
             | more u ↦ inr (let g = a.gap w.at q t.here h u in let v = mv in omega arith)
           ]
-
--- A register and what `forward` gives for it.
-pub forward_one : (m : Memory) (ws : List ℕ) (d e : Descriptor) (res : Result Descriptor HeapFault) → d ≡ e → (d.flags ≡ 0 → res ≡ Ok d) →
-    ((q i : ℕ) → Hits m ws d q i → res ≡ Ok (desc (pos (get_or ws q 0 + i)) 16 d.kind)) → Ready m ws e → (d' : Descriptor) × (res ≡ Ok d') × Goes m ws e d'
-forward_one m ws d e res x pl mo y = subst (λ (e : Descriptor). Ready m ws e → (d' : Descriptor) × (res ≡ Ok d') × Goes m ws e d') x by y
-  where
-    by : Ready m ws d → (d' : Descriptor) × (res ≡ Ok d') × Goes m ws d d'
-    by (value z) = (d, pl z, value_goes z refl)
-    by (pointer q i h) = (desc (pos (get_or ws q 0 + i)) 16 d.kind, mo q i h, pointer_goes q i h refl)
 
 module _ (o : Memory) (ws : List ℕ) (rs : List Descriptor) where
   pub shifting_read : (k : ℕ) (rs' : List Descriptor) (x : Descriptor) → Shifting o ws rs k rs' → k < length rs' → get_or rs' k x ≡ get_or rs k null_desc
