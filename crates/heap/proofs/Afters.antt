@@ -1,6 +1,6 @@
 -- After regeneration the chains are those of the kept strings, and heads and links show them.
 use Rattle.std.proofs.Common.{◌≡◌, ℕ, ◌<◌, ◌≤◌, ◌≢◌, List, [], ◌∷◌, length, get_or, pos, sym, ap, ◌∙◌, subst, inl, inr, mod-lt, div-le_self, arith}
-use native.Mathlib.Decide.{dec_lt}
+use native.Mathlib.Decide.{dec_lt, ℕ_discrete}
 use lib.Bits.{bit_and}
 use Rattle.cells.specs.declared.Descriptor.{Descriptor}
 use Rattle.cells.specs.Meaning.{Memory, Figures, Sound}
@@ -13,7 +13,6 @@ use Rattle.rules.proofs.Lies.{lies_in, in_lies, lies_end, lies_place, place_lies
 use Rattle.heap.specs.Marks.{IsMarked, IsBare}
 use Rattle.heap.specs.Walks.{length_at, Tiled, To, Renewed}
 use Rattle.heap.specs.Threads.{link_cell, Leads, Led, MarkedString, Linkable, Headed}
-use Rattle.heap.proofs.Cells.{Same, same, apart, compare_cells}
 use Rattle.heap.proofs.Orders.{size_some, key_below, few_texts}
 use Rattle.heap.proofs.Sifts.{in_next, next_rest, next_twice, next_shorter, keeps_next, down, leads_one}
 use Rattle.heap.proofs.Ends.{kept, new_place, old_place}
@@ -24,21 +23,21 @@ linked_kind s from order n xs d (to_next p l e) = ap (λ (x : Descriptor). x.kin
 
 dec_in : (ts : List ℕ) (q : ℕ) → Dec (In q ts)
 dec_in [] q = no (λ h. h)
-dec_in (x ∷ xs) q = by (compare_cells q x) (dec_in xs q)
+dec_in (x ∷ xs) q = by (ℕ_discrete q x) (dec_in xs q)
   where
-    by : Same q x → Dec (In q xs) → Dec (In q (x ∷ xs))
-    by (same e) d = yes (inl e)
-    by (apart n) (yes h) = yes (inr h)
-    by (apart n) (no h) = no (λ k. elim k [ inl e ↦ n e | inr i ↦ h i ])
+    by : Dec (q ≡ x) → Dec (In q xs) → Dec (In q (x ∷ xs))
+    by (yes e) d = yes (inl e)
+    by (no n) (yes h) = yes (inr h)
+    by (no n) (no h) = no (λ k. elim k [ inl e ↦ n e | inr i ↦ h i ])
 
 dec_string : (o : Memory) (ts : List ℕ) (q : ℕ) → Dec (MarkedString o ts q)
-dec_string o ts q = by (dec_in ts q) (compare_cells (bit_and (o.descriptor q).flags 8) 0) (compare_cells (bit_and (o.descriptor q).flags 4) 0)
+dec_string o ts q = by (dec_in ts q) (ℕ_discrete (bit_and (o.descriptor q).flags 8) 0) (ℕ_discrete (bit_and (o.descriptor q).flags 4) 0)
   where
-    by : Dec (In q ts) → Same (bit_and (o.descriptor q).flags 8) 0 → Same (bit_and (o.descriptor q).flags 4) 0 → Dec (MarkedString o ts q)
+    by : Dec (In q ts) → Dec ((bit_and (o.descriptor q).flags 8) ≡ 0) → Dec ((bit_and (o.descriptor q).flags 4) ≡ 0) → Dec (MarkedString o ts q)
     by (no n) a b = no (λ k. n k.0)
-    by (yes h) (same e) b = no (λ k. k.1 e)
-    by (yes h) (apart m) (same e) = no (λ k. k.2 e)
-    by (yes h) (apart m) (apart l) = yes (h, m, l)
+    by (yes h) (yes e) b = no (λ k. k.1 e)
+    by (yes h) (no m) (yes e) = no (λ k. k.2 e)
+    by (yes h) (no m) (no l) = yes (h, m, l)
 
 module _ (m : Model) (a : Arena) (m0 : Memory) (snd : Sound m0) (sh : Shows m a m0) (o : Memory)
     (tiled : Tiled o (titles_of m a m0) a.bins a.«next»)
@@ -61,9 +60,9 @@ module _ (m : Model) (a : Arena) (m0 : Memory) (snd : Sound m0) (sh : Shows m a 
   decided : (t : Text) → In (string t) a.order → Dec (Reach m (string t))
   decided t h =
       let w = in_lies sz a.bins (string t) a.order h in
-      elim (compare_cells (bit_and (o.descriptor w.0).flags 8) 0) [
-        | same z ↦ no (λ r. mark_down (string t) w.0 w.1 r z)
-        | apart z ↦ yes (mark_up (string t) w.0 w.1 z)
+      elim (ℕ_discrete (bit_and (o.descriptor w.0).flags 8) 0) [
+        | yes z ↦ no (λ r. mark_down (string t) w.0 w.1 r z)
+        | no z ↦ yes (mark_up (string t) w.0 w.1 z)
       ]
 
   -- The chains of what is kept.
@@ -102,7 +101,7 @@ module _ (m : Model) (a : Arena) (m0 : Memory) (snd : Sound m0) (sh : Shows m a 
 
     bare : (t : Text) (p : ℕ) → At m a m0 (string t) p → ¬ (P t) → IsBare r p
     bare t p y n =
-        rw (titles p (lies_place sz _ _ (string t) p y)) (elim (compare_cells (bit_and (o.descriptor p).flags 8) 0) [ same z ↦ z | apart z ↦ absurd (n (mark_up (string t) p y z)) ])
+        rw (titles p (lies_place sz _ _ (string t) p y)) (elim (ℕ_discrete (bit_and (o.descriptor p).flags 8) 0) [ yes z ↦ z | no z ↦ absurd (n (mark_up (string t) p y z)) ])
 
     goes : (t : Text) (p : ℕ) → At m a m0 (string t) p → P t →
         (IsMarked r p) × (p < length tb) × (get_or tb p 0 ≤ 65535) × Lies (size m0.figures.places m) a.bins order' (string t) (get_or tb p 0)

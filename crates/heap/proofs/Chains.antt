@@ -1,5 +1,6 @@
 -- The walk along a chain to the next marked string, and the new heads and links.
 use Rattle.std.proofs.Common.{◌≡◌, ℕ, ◌+◌, ◌<◌, ◌≤◌, Bool, true, false, cond, eqb, ◌≢◌, ◌⊎◌, List, length, get_or, ℤ, pos, sym, refl, ap, ◌∙◌, subst, inl, inr, ⊎_elim, arith, eqb-true}
+use native.Mathlib.Decide.{ℕ_discrete}
 use lib.Bits.{bit_and}
 use Rattle.cells.specs.declared.Descriptor.{Descriptor}
 use Rattle.cells.specs.Meaning.{Memory, Figures, WroteDescriptor, FitDescriptor}
@@ -13,7 +14,6 @@ use Rattle.heap.specs.declared.blocks.Block.{Block}
 use Rattle.heap.specs.declared.blocks.Blocks.{Blocks}
 use Rattle.heap.specs.Walks.{length_at, Tiled}
 use Rattle.heap.specs.Threads.{link_cell, Joins, Leads, to_end, to_kept, past, Led, Leading, MarkedString, Linkable, Threading, Headed, Heading, Rethreaded}
-use Rattle.heap.proofs.Cells.{same, apart, compare_cells}
 use Rattle.heap.proofs.Paths.{less, equal, more, order_of, lower, next_stop, positive}
 use Rattle.heap.proofs.Took.{Took}
 use Rattle.heap.proofs.Values.{count_below}
@@ -25,9 +25,6 @@ clear : {A : Type 0} (f : ℕ) → f ≡ 0 → bit_and f 16 ≢ 0 → A
 clear f e z = absurd (z (rw e refl))
 
 module _ (o : Memory) (ts ws : List ℕ) where
-  pub leading_none : (d d' : Descriptor) (n : ℕ) → o.figures.cells ≤ n → Led o ts ws d d' → Leading o ts ws d.kind d' d n
-  leading_none d d' n l s = record { turns = s.turns; few = let f = s.few in omega arith; leads = s.leads }
-
   module _ (k : ℕ) (d' d : Descriptor) (left : ℕ) (s : Leading o ts ws k d' d left) where
     -- The chain ends,
     pub leading_end : bit_and d.flags 16 ≡ 0 → desc (pos 0) 0 k ≡ d'
@@ -127,16 +124,6 @@ module _ (o : Memory) (ts : List ℕ) (bins end : ℕ) (a : Tiled o ts bins end)
   no_link q c k h e = let l = string_long o.figures.places (o.descriptor q) k.2 in let g = a.gap q c k.0 h (omega arith) in omega arith
 
   module _ (link : ℕ → Descriptor) where
-    pub threading_none : Threading o ts link end bins o
-    threading_none =
-        record {
-          stop = a.start;
-          figures = refl;
-          done = λ q k l. absurd (let x = a.low q k.0 in omega arith);
-          descriptors = λ c n. refl;
-          characters = λ c j n. refl;
-        }
-
     module _ (p : ℕ) (r : Memory) (s : Threading o ts link end p r) where
       pub threading_titles : (q : ℕ) → In q ts → r.descriptor q ≡ o.descriptor q
       threading_titles q h = s.descriptors q (λ x k l. no_link x q k h)
@@ -185,9 +172,9 @@ module _ (o : Memory) (ts : List ℕ) (bins end : ℕ) (a : Tiled o ts bins end)
             record {
               stop = next_stop o ts bins end a w w' b r t;
               figures = d.figures ∙ s.figures;
-              done = λ q k x. elim (compare_cells q w.at) [
-                | same z ↦ rw z d.here
-                | apart z ↦ d.descriptors (link_cell q) (omega arith) ∙ s.done q k (lower o ts bins end a w w' b r t q k.0 x z)
+              done = λ q k x. elim (ℕ_discrete q w.at) [
+                | yes z ↦ rw z d.here
+                | no z ↦ d.descriptors (link_cell q) (omega arith) ∙ s.done q k (lower o ts bins end a w w' b r t q k.0 x z)
               ];
               descriptors = λ c ne. d.descriptors c (away c ne) ∙ s.descriptors c (λ q k x. ne q k (omega arith));
               characters = λ c j ne. d.characters c j (away c ne) ∙ s.characters c j (λ q k x. ne q k (omega arith));
@@ -197,9 +184,6 @@ module _ (o : Memory) (ts : List ℕ) (bins end : ℕ) (a : Tiled o ts bins end)
             away c ne z = ne w.at keeps_here (let y = positive o ts bins end a w.at in let i = t.onward in omega arith) (sym z)
 
 module _ (o : Memory) (ts : List ℕ) (bins : ℕ) (low : (q : ℕ) → In q ts → bins ≤ q) (head : ℕ → Descriptor) where
-  pub heading_none : Heading o head 0 o
-  heading_none = record { figures = refl; done = λ b l. absurd (omega arith); descriptors = λ c l. refl; characters = λ c j l. refl }
-
   module _ (k : ℕ) (r : Memory) (s : Heading o head k r) (l : k < bins) where
     pub heading_led : (ws : List ℕ) → Headed o ts ws bins head → Led r ts ws (r.descriptor k) (head k)
     heading_led ws h =
@@ -213,7 +197,7 @@ module _ (o : Memory) (ts : List ℕ) (bins : ℕ) (low : (q : ℕ) → In q ts 
     heading_more r' w =
         record {
           figures = w.figures ∙ s.figures;
-          done = λ b x. elim (compare_cells b k) [ same z ↦ rw z w.here | apart z ↦ w.descriptors b z ∙ s.done b (omega arith) ];
+          done = λ b x. elim (ℕ_discrete b k) [ yes z ↦ rw z w.here | no z ↦ w.descriptors b z ∙ s.done b (omega arith) ];
           descriptors = λ c x. w.descriptors c (omega arith) ∙ s.descriptors c (omega arith);
           characters = λ c j x. w.characters c j (omega arith) ∙ s.characters c j (omega arith);
         }
@@ -240,7 +224,7 @@ module _ (r : Memory) (ts : List ℕ) (bins end : ℕ) (a : Tiled r ts bins end)
   below_end q h = let x = a.high q h in let p = positive r ts bins end a q in omega arith
 
   two_or : (q : ℕ) → (count (r.descriptor q) ≡ string_fields) ⊎ (bit_and (r.descriptor q).flags 4 ≡ 0)
-  two_or q = elim (compare_cells (bit_and (r.descriptor q).flags 4) 0) [ same z ↦ inr z | apart z ↦ inl (string_two (r.descriptor q) z) ]
+  two_or q = elim (ℕ_discrete (bit_and (r.descriptor q).flags 4) 0) [ yes z ↦ inr z | no z ↦ inl (string_two (r.descriptor q) z) ]
 
   pub rethreaded : Rethreaded r ts bins link head v
   rethreaded =
@@ -255,20 +239,3 @@ module _ (r : Memory) (ts : List ℕ) (bins end : ℕ) (a : Tiled r ts bins end)
         tails = λ q k j h l m. (let i = a.low q h in
             hd.characters (q + k) j (omega arith) ∙ th.characters (q + k) j (elsewhere q k h m (⊎_elim (λ t. inl (omega arith)) (λ t. inr t) (two_or q))));
       }
-
-  pub tiled_rethreaded : Tiled v ts bins end
-  tiled_rethreaded =
-      record {
-        start = a.start;
-        step = λ p h. rw (len p h) (a.step p h);
-        gap = λ p q h k l. rw (len p h) (a.gap p q h k l);
-        low = a.low;
-        high = λ p h. rw (len p h) (a.high p h);
-        some = λ p h. rw (rethreaded.titles p h) (a.some p h);
-        few = λ p h. rw (rethreaded.titles p h) (a.few p h);
-        within = rw rethreaded.figures a.within;
-        places = rw rethreaded.figures a.places;
-      }
-    where
-      len : (p : ℕ) → In p ts → length_at v p ≡ length_at r p
-      len p h = rw (rethreaded.titles p h, rethreaded.figures) refl

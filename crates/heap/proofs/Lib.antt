@@ -1,5 +1,4 @@
 pub mod Outcomes
-pub mod Cells
 pub mod Pigeons
 pub mod Queues
 pub mod Scans

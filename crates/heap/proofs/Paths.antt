@@ -1,6 +1,6 @@
 -- The walk over the blocks and the new cells of the marked ones.
 use Rattle.std.proofs.Common.{◌≡◌, ℕ, ◌+◌, ◌<◌, ◌≤◌, Bool, true, false, cond, eqb, ◌≢◌, ◌⊎◌, List, length, get_or, set, sym, refl, ap, ◌∙◌, inl, inr, ⊎_elim, arith, get_or-set_other, get_or-set_same}
-use native.Mathlib.Decide.{dec_lt}
+use native.Mathlib.Decide.{dec_lt, ℕ_discrete}
 use lib.Bits.{bit_and}
 use Rattle.cells.specs.declared.Descriptor.{Descriptor}
 use Rattle.cells.specs.Meaning.{Memory, Figures, WroteDescriptor}
@@ -11,7 +11,6 @@ use Rattle.arena.specs.Titles.{cells_of, retitled}
 use Rattle.heap.specs.declared.blocks.Block.{Block}
 use Rattle.heap.specs.declared.blocks.Blocks.{Blocks}
 use Rattle.heap.specs.Walks.{Slid, length_at, Tiled, To, begin, keep, skip, Tabled, Brought, Packed, Moving}
-use Rattle.heap.proofs.Cells.{same, apart, compare_cells}
 use Rattle.heap.proofs.Took.{Took}
 
 pub data Order (a b : ℕ) : Type 0 where
@@ -20,7 +19,7 @@ pub data Order (a b : ℕ) : Type 0 where
   more : b < a → Order a b
 
 pub order_of : (a b : ℕ) → Order a b
-order_of a b = elim (compare_cells a b) [ same e ↦ equal e | apart n ↦ elim (dec_lt a b) [ yes l ↦ less l | no k ↦ more (omega arith) ] ]
+order_of a b = elim (ℕ_discrete a b) [ yes e ↦ equal e | no n ↦ elim (dec_lt a b) [ yes l ↦ less l | no k ↦ more (omega arith) ] ]
 
 cells_positive : (c : ℕ) (d : Descriptor) → 1 ≤ cells_of c d
 cells_positive c d = by (eqb (bit_and d.flags 4) 0)
@@ -110,9 +109,9 @@ module _ (o : Memory) (ts : List ℕ) (bins end : ℕ) (a : Tiled o ts bins end)
         record {
           stop = next_stop w w' b o t;
           goes = keep w.at u s.goes t.here (λ z. m (rw t.title z)) t.onward (ap (λ x. u + x) t.cells);
-          table = λ q hq k mq. rw t.at (elim (compare_cells q w.at) [
-            | same z ↦ rw (z, get_or-set_same ws w.at u 0 (rw t.at at l)) s.goes
-            | apart z ↦ rw (get_or-set_other ws w.at q u 0 z) (s.table q hq (lower w w' b o t q hq k z) mq)
+          table = λ q hq k mq. rw t.at (elim (ℕ_discrete q w.at) [
+            | yes z ↦ rw (z, get_or-set_same ws w.at u 0 (rw t.at at l)) s.goes
+            | no z ↦ rw (get_or-set_other ws w.at q u 0 z) (s.table q hq (lower w w' b o t q hq k z) mq)
           ]);
         }
 
@@ -123,17 +122,6 @@ module _ (o : Memory) (ts : List ℕ) (bins end : ℕ) (a : Tiled o ts bins end)
           goes = skip w.at s.goes t.here (rw t.title at m) t.onward;
           table = λ q hq k mq. s.table q hq (lower w w' b o t q hq k (λ z. mq (rw (z, ← t.title) m))) mq;
         }
-
-  pub packed_none : Packed o ts bins bins o
-  packed_none =
-      record {
-        figures = refl;
-        titles = λ q t h l. absurd (let x = a.low q h in omega arith);
-        descriptors = λ q t k h l. absurd (let x = a.low q h in omega arith);
-        characters = λ q t k j h l. absurd (let x = a.low q h in omega arith);
-        rest = λ c l. refl;
-        rest_characters = λ c j l. refl;
-      }
 
   pub packed_skip : (p n : ℕ) (f : Memory) → Packed o ts bins p f → In p ts → n ≡ len p → IsBare o p → Packed o ts bins (p + n) f
   packed_skip p n f s h e m =
@@ -154,21 +142,21 @@ module _ (o : Memory) (ts : List ℕ) (bins end : ℕ) (a : Tiled o ts bins end)
   packed_keep p t n f g f' s h e m go sl w =
       record {
         figures = w.figures ∙ sl.figures ∙ s.figures;
-        titles = λ q u hq l mq gq. elim (compare_cells q p) [
-          | same z ↦ (let x = to_one p t u go (rw z at gq) in rw (z, ← x) w.here)
-          | apart z ↦ (let y = before q u hq l mq gq z in let x = positive q in
+        titles = λ q u hq l mq gq. elim (ℕ_discrete q p) [
+          | yes z ↦ (let x = to_one p t u go (rw z at gq) in rw (z, ← x) w.here)
+          | no z ↦ (let y = before q u hq l mq gq z in let x = positive q in
               w.descriptors u (omega arith) ∙ sl.descriptors u (inl (omega arith)) ∙ s.titles q u hq (below_step p q h hq (rw (← e) l) z) mq gq)
         ];
-        descriptors = λ q u k hq l mq gq k1 k2. elim (compare_cells q p) [
-          | same z ↦ (let x = to_one p t u go (rw z at gq) in let y : k < n = rw (e, ← z) k2 in
+        descriptors = λ q u k hq l mq gq k1 k2. elim (ℕ_discrete q p) [
+          | yes z ↦ (let x = to_one p t u go (rw z at gq) in let y : k < n = rw (e, ← z) k2 in
               rw (z, ← x) (w.descriptors (t + k) (omega arith) ∙ sl.descriptor k y ∙ s.rest (p + k) (inr (omega arith))))
-          | apart z ↦ (let y = before q u hq l mq gq z in
+          | no z ↦ (let y = before q u hq l mq gq z in
               w.descriptors (u + k) (omega arith) ∙ sl.descriptors (u + k) (inl (omega arith)) ∙ s.descriptors q u k hq (below_step p q h hq (rw (← e) l) z) mq gq k1 k2)
         ];
-        characters = λ q u k j hq l mq gq k1 k2. elim (compare_cells q p) [
-          | same z ↦ (let x = to_one p t u go (rw z at gq) in let y : k < n = rw (e, ← z) k2 in
+        characters = λ q u k j hq l mq gq k1 k2. elim (ℕ_discrete q p) [
+          | yes z ↦ (let x = to_one p t u go (rw z at gq) in let y : k < n = rw (e, ← z) k2 in
               rw (z, ← x) (w.characters (t + k) j (omega arith) ∙ sl.character k j y ∙ s.rest_characters (p + k) j (inr (omega arith))))
-          | apart z ↦ (let y = before q u hq l mq gq z in
+          | no z ↦ (let y = before q u hq l mq gq z in
               w.characters (u + k) j (omega arith) ∙ sl.characters (u + k) j (inl (omega arith)) ∙ s.characters q u k j hq (below_step p q h hq (rw (← e) l) z) mq gq k1 k2)
         ];
         rest = λ c l. (let b = to_low p t go in let b0 = b.0 in let b1 = b.1 in let y = positive p in
@@ -179,9 +167,6 @@ module _ (o : Memory) (ts : List ℕ) (bins end : ℕ) (a : Tiled o ts bins end)
     where
       before : (q u : ℕ) → In q ts → q < p + n → IsMarked o q → To o ts bins q u → q ≢ p → u + len q ≤ t
       before q u hq l mq gq z = to_above q u p t hq mq gq (below_step p q h hq (rw (← e) l) z) go
-
-  pub moving_none : Moving o ts bins end bins o
-  moving_none = record { stop = a.start; packed = packed_none }
 
   pub moving_title : (p : ℕ) (f : Memory) → Moving o ts bins end p f → In p ts → f.descriptor p ≡ o.descriptor p
   moving_title p f s h = s.packed.rest p (inr (omega arith))

@@ -1,6 +1,6 @@
 -- The queue of marked titles: what one step of marking does.
 use Rattle.std.proofs.Common.{◌≡◌, ℕ, suc, ◌+◌, ◌-◌, ◌<◌, ◌≤◌, ◌≢◌, ◌⊎◌, List, length, get_or, set, sym, refl, ap, ◌∙◌, subst, inl, inr, ⊎_elim, arith, length-set, get_or-set_other, get_or-set_same}
-use native.Mathlib.Decide.{dec_lt}
+use native.Mathlib.Decide.{dec_lt, ℕ_discrete}
 use lib.Bits.{bit_and, bit_or}
 use Rattle.cells.specs.declared.Descriptor.{Descriptor}
 use Rattle.cells.specs.Meaning.{Memory, Figures, WroteDescriptor}
@@ -8,7 +8,6 @@ use Rattle.rules.specs.Lists.{In}
 use Rattle.rules.proofs.Coded.{pos_inj}
 use Rattle.arena.specs.Titles.{Back, count, with_mark}
 use Rattle.heap.specs.Marks.{IsMarked, IsBare, Aims, Valued, plain, pointer, Queued, still, marked, Queue, Added, Visited}
-use Rattle.heap.proofs.Cells.{Same, same, apart, compare_cells}
 use Rattle.heap.proofs.Pigeons.{pigeons}
 
 -- The flags of a title.
@@ -26,12 +25,17 @@ flags_of f h =
     (λ e. rw e (record { clear = refl; set = omega arith; title = omega arith; title_still = omega arith; small = omega arith; alike = refl }))
     (λ e. rw e (record { clear = refl; set = omega arith; title = omega arith; title_still = omega arith; small = omega arith; alike = refl })) h
 
-pub lt_or : (a b : ℕ) → a ≢ b → (a < b) ⊎ (b < a)
-lt_or a b n = elim (dec_lt a b) [ yes l ↦ inl l | no k ↦ inr (omega arith) ]
+-- Two titles before one cell are one.
+pub back_one : (m : Memory) (q k r j : ℕ) → Back m q k → Back m r j → q + k ≡ r + j → q ≡ r
+back_one m q k r j b c e =
+    elim (ℕ_discrete q r) [
+      | yes x ↦ x
+      | no n ↦ elim (dec_lt q r) [ yes l ↦ absurd (c.title (b.passed r l (omega arith))) | no l ↦ absurd (b.title (c.passed q (omega arith) (omega arith))) ]
+    ]
 
-either : (i n : ℕ) → Same i n → ℕ → ℕ → ℕ
-either i n (same e) x y = x
-either i n (apart d) x y = y
+either : (i n : ℕ) → Dec (i ≡ n) → ℕ → ℕ → ℕ
+either i n (yes e) x y = x
+either i n (no d) x y = y
 
 module _ (m : Memory) (ts : List ℕ) (ws : List ℕ) (n : ℕ) (o : Memory) (a : Queue m ts ws n o) where
   -- A title that is not marked is as it was, and is not in the queue.
@@ -66,28 +70,19 @@ module _ (m : Memory) (ts : List ℕ) (ws : List ℕ) (n : ℕ) (o : Memory) (a 
   pub room_left : (q : ℕ) → In q ts → ((i : ℕ) → i < n → get_or ws i 0 ≢ q) → n < length ws
   unfolding either
   room_left q h ne =
-      let le = pigeons m.figures.cells (suc n) (λ i. either i n (compare_cells i n) q (get_or ws i 0))
-      (λ i l. below i l (compare_cells i n))
-      (λ i j l k. far i j l k (compare_cells i n) (compare_cells j n)) in
+      let le = pigeons m.figures.cells (suc n) (λ i. either i n (ℕ_discrete i n) q (get_or ws i 0))
+      (λ i l. below i l (ℕ_discrete i n))
+      (λ i j l k. far i j l k (ℕ_discrete i n) (ℕ_discrete j n)) in
       let r = a.room in omega arith
     where
-      below : (i : ℕ) → i < suc n → (s : Same i n) → either i n s q (get_or ws i 0) < m.figures.cells
-      below i l (same e) = title_below q h
-      below i l (apart d) = title_below (get_or ws i 0) (a.titles i (omega arith))
+      below : (i : ℕ) → i < suc n → (s : Dec (i ≡ n)) → either i n s q (get_or ws i 0) < m.figures.cells
+      below i l (yes e) = title_below q h
+      below i l (no d) = title_below (get_or ws i 0) (a.titles i (omega arith))
 
-      far : (i j : ℕ) → i < j → j < suc n → (s : Same i n) (t : Same j n) → either i n s q (get_or ws i 0) ≢ either j n t q (get_or ws j 0)
-      far i j l k (same e) t = absurd (omega arith)
-      far i j l k (apart d) (same e) = ne i (omega arith)
-      far i j l k (apart d) (apart f) = a.apart i j l (omega arith)
-
-  pub added_old : (q : ℕ) → In q ts → IsMarked o q → Added m ts ws n q ws n o
-  added_old q h z =
-      record {
-        queue = a;
-        grew = record { more = omega arith; kept = λ i k. refl };
-        here = queued q h z;
-        new = λ i k l. absurd (omega arith);
-      }
+      far : (i j : ℕ) → i < j → j < suc n → (s : Dec (i ≡ n)) (t : Dec (j ≡ n)) → either i n s q (get_or ws i 0) ≢ either j n t q (get_or ws j 0)
+      far i j l k (yes e) t = absurd (omega arith)
+      far i j l k (no d) (yes e) = ne i (omega arith)
+      far i j l k (no d) (no f) = a.apart i j l (omega arith)
 
   pub added_new : (q : ℕ) (o' : Memory) → In q ts → IsBare o q → n < length ws → WroteDescriptor o q (with_mark (o.descriptor q)) o' →
       Added m ts ws n q (set ws n q) (n + 1) o'
@@ -97,17 +92,17 @@ module _ (m : Memory) (ts : List ℕ) (ws : List ℕ) (n : ℕ) (o : Memory) (a 
           ground = a.ground;
           room = rw (length-set ws n q) a.room;
           figures = w.figures ∙ a.figures;
-          states = λ c. elim (compare_cells c q) [
-            | same e ↦ marked (n, omega arith, new ∙ sym e) (rw e (w.here ∙ ap with_mark u.1))
-            | apart d ↦ elim (a.states c) [
-              | still ne dd ch ↦ still (λ i l. elim (compare_cells i n) [ same e ↦ λ x. d (sym x ∙ rw e new) | apart f ↦ λ x. ne i (omega arith) (sym (old i f) ∙ x) ]) (w.descriptors c d ∙ dd) (λ j. w.characters c j d ∙ ch j)
+          states = λ c. elim (ℕ_discrete c q) [
+            | yes e ↦ marked (n, omega arith, new ∙ sym e) (rw e (w.here ∙ ap with_mark u.1))
+            | no d ↦ elim (a.states c) [
+              | still ne dd ch ↦ still (λ i l. elim (ℕ_discrete i n) [ yes e ↦ λ x. d (sym x ∙ rw e new) | no f ↦ λ x. ne i (omega arith) (sym (old i f) ∙ x) ]) (w.descriptors c d ∙ dd) (λ j. w.characters c j d ∙ ch j)
               | marked i dd ↦ marked (i.0, (let k = i.1 in omega arith), old i.0 (let k = i.1 in omega arith) ∙ i.2) (w.descriptors c d ∙ dd)
             ]
           ];
-          titles = λ i l. elim (compare_cells i n) [ same e ↦ rw (e, new) h | apart f ↦ rw (old i f) (a.titles i (omega arith)) ];
-          apart = λ i j l k. elim (compare_cells j n) [
-            | same e ↦ λ x. u.0 i (omega arith) (sym (old i (omega arith)) ∙ x ∙ rw e new)
-            | apart f ↦ λ x. a.apart i j l (omega arith) (sym (old i (omega arith)) ∙ x ∙ old j f)
+          titles = λ i l. elim (ℕ_discrete i n) [ yes e ↦ rw (e, new) h | no f ↦ rw (old i f) (a.titles i (omega arith)) ];
+          apart = λ i j l k. elim (ℕ_discrete j n) [
+            | yes e ↦ λ x. u.0 i (omega arith) (sym (old i (omega arith)) ∙ x ∙ rw e new)
+            | no f ↦ λ x. a.apart i j l (omega arith) (sym (old i (omega arith)) ∙ x ∙ old j f)
           ];
         };
         grew = record { more = omega arith; kept = λ i l. old i (omega arith) };
@@ -160,25 +155,7 @@ module _ (m : Memory) (ts : List ℕ) (ws : List ℕ) (n : ℕ) (o : Memory) (a 
 
   -- A pointer has one title.
   pub one_title : (d : Descriptor) (q r : ℕ) → Aims m ts d q → Aims m ts d r → q ≡ r
-  one_title d q r p s =
-      let b = back_now d q p in let c = back_now d r s in
-      let e = pos_inj _ _ (sym p.value ∙ s.value) in
-      elim (compare_cells q r) [
-        | same x ↦ x
-        | apart n ↦ elim (lt_or q r n) [
-          | inl l ↦ absurd (c.title (b.passed r l (omega arith)))
-          | inr l ↦ absurd (b.title (c.passed q l (omega arith)))
-        ]
-      ]
-
-  pub visited_none : (d : Descriptor) → d.flags ≡ 0 → Visited m ts ws n d ws n o
-  visited_none d z =
-      record {
-        queue = a;
-        grew = record { more = omega arith; kept = λ i k. refl };
-        here = λ q p. absurd (let e = p.flag in omega arith);
-        new = λ i k l. absurd (omega arith);
-      }
+  one_title d q r p s = back_one o q p.distance r s.distance (back_now d q p) (back_now d r s) (pos_inj _ _ (sym p.value ∙ s.value))
 
   pub visited_one : (d : Descriptor) (q t : ℕ) (ws' : List ℕ) (n' : ℕ) (o' : Memory) → Aims m ts d q → t ≡ q → Added m ts ws n t ws' n' o' → Visited m ts ws n d ws' n' o'
   visited_one d q t ws' n' o' p e v =

@@ -1,6 +1,6 @@
 -- The fields of one block, and the whole queue.
 use Rattle.std.proofs.Common.{◌≡◌, ℕ, ◌+◌, ◌-◌, ◌<◌, ◌≤◌, ◌≢◌, ◌⊎◌, List, get_or, refl, ap, ◌∙◌, ⊎_elim, arith}
-use native.Mathlib.Decide.{dec_lt}
+use native.Mathlib.Decide.{dec_lt, ℕ_discrete}
 use lib.Bits.{bit_and}
 use Rattle.cells.specs.declared.Descriptor.{Descriptor}
 use Rattle.cells.specs.Meaning.{Memory, Figures}
@@ -9,7 +9,6 @@ use Rattle.rules.specs.Lists.{In}
 use Rattle.rules.specs.Arena.{null_desc}
 use Rattle.arena.specs.Titles.{count, with_mark}
 use Rattle.heap.specs.Marks.{Aims, Valued, plain, pointer, Queued, still, marked, Queue, Grew, Added, Visited, Scanned, Reached, root, along, Drained, Marked, Registered, Holding}
-use Rattle.heap.proofs.Cells.{same, apart, compare_cells}
 use Rattle.heap.proofs.Queues.{flags_of}
 
 pub in_grown : (ws ws' : List ℕ) (n n' q : ℕ) → Grew ws n ws' n' → Queued ws n q → Queued ws' n' q
@@ -52,15 +51,6 @@ module _ (m : Memory) (ts : List ℕ) (ws : List ℕ) (n : ℕ) (o : Memory) (a 
       let w = (a.ground.titled p h).within in
       (rw e at (field_now p k h (omega arith)), omega arith, rw e at (a.ground.valued p k h (omega arith)))
 
-  pub scanned_none : (p : ℕ) → Scanned m ts p 0 ws n ws n o
-  scanned_none p =
-      record {
-        queue = a;
-        grew = record { more = omega arith; kept = λ i l. refl };
-        here = λ j q l. absurd (omega arith);
-        new = λ i k l. absurd (omega arith);
-      }
-
   pub drained_none : Drained m ts 0 ws n ws n o
   drained_none =
       record {
@@ -78,9 +68,9 @@ scanned_more m ts ws n p c d ws' n' o' ws'' n'' o'' low e s v =
     record {
       queue = v.queue;
       grew = grew_twice ws ws' ws'' n n' n'' s.grew v.grew;
-      here = λ j q l x. elim (compare_cells (p + 1 + j) c) [
-        | same z ↦ v.here q (rw (e, ← z) x)
-        | apart z ↦ in_grown ws' ws'' n' n'' q v.grew (s.here j q (omega arith) x)
+      here = λ j q l x. elim (ℕ_discrete (p + 1 + j) c) [
+        | yes z ↦ v.here q (rw (e, ← z) x)
+        | no z ↦ in_grown ws' ws'' n' n'' q v.grew (s.here j q (omega arith) x)
       ];
       new = λ i l h. elim (dec_lt i n') [
         | yes y ↦ (let w = s.new i l y in (w.0, (let z = w.1 in omega arith), rw (v.grew.kept i y) w.2))
@@ -96,9 +86,9 @@ drained_more m ts ws n h ws' n' o' ws'' n'' o'' far s v =
       queue = v.queue;
       grew = grew_twice ws ws' ws'' n n' n'' s.grew v.grew;
       far = (let z = v.grew.more in omega arith);
-      closed = λ i j q l. rw (v.grew.kept i (omega arith)) (elim (compare_cells i h) [
-        | same z ↦ rw z (v.here j q)
-        | apart z ↦ λ k x. in_grown ws' ws'' n' n'' q v.grew (s.closed i j q (omega arith) k x)
+      closed = λ i j q l. rw (v.grew.kept i (omega arith)) (elim (ℕ_discrete i h) [
+        | yes z ↦ rw z (v.here j q)
+        | no z ↦ λ k x. in_grown ws' ws'' n' n'' q v.grew (s.closed i j q (omega arith) k x)
       ]);
       sound = λ i l. elim (dec_lt i n') [
         | yes y ↦ rw (v.grew.kept i y) (s.sound i y)
@@ -122,10 +112,6 @@ all_marked m ts ws n h ws' n' o' end s =
     reached q (root i) = in_grown ws ws' n n' q s.grew i
     reached q (along {p = p} j r k x) = step p q j (reached p r) k x
 
-pub registered_none : (m : Memory) (ts : List ℕ) (rs : List Descriptor) (ws : List ℕ) (n : ℕ) (o : Memory) → Queue m ts ws n o → Registered m ts rs 0 ws n ws n o
-registered_none m ts rs ws n o a =
-    record { queue = a; grew = record { more = omega arith; kept = λ i l. refl }; here = λ j q l. absurd (omega arith); new = λ i k l. absurd (omega arith) }
-
 -- One register more.
 pub registered_more : (m : Memory) (ts : List ℕ) (rs : List Descriptor) (ws : List ℕ) (n k : ℕ) (d : Descriptor) (ws' : List ℕ) (n' : ℕ) (o' : Memory) (ws'' : List ℕ) (n'' : ℕ) (o'' : Memory) →
     d ≡ get_or rs k null_desc → Registered m ts rs k ws n ws' n' o' → Visited m ts ws' n' d ws'' n'' o'' → Registered m ts rs (k + 1) ws n ws'' n'' o''
@@ -133,9 +119,9 @@ registered_more m ts rs ws n k d ws' n' o' ws'' n'' o'' e s v =
     record {
       queue = v.queue;
       grew = grew_twice ws ws' ws'' n n' n'' s.grew v.grew;
-      here = λ j q l x. elim (compare_cells j k) [
-        | same z ↦ v.here q (rw (e, ← z) x)
-        | apart z ↦ in_grown ws' ws'' n' n'' q v.grew (s.here j q (omega arith) x)
+      here = λ j q l x. elim (ℕ_discrete j k) [
+        | yes z ↦ v.here q (rw (e, ← z) x)
+        | no z ↦ in_grown ws' ws'' n' n'' q v.grew (s.here j q (omega arith) x)
       ];
       new = λ i l h. elim (dec_lt i n') [
         | yes y ↦ (let w = s.new i l y in (w.0, (let z = w.1 in omega arith), rw (v.grew.kept i y) w.2))

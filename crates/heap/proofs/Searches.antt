@@ -1,31 +1,20 @@
 -- The walk over the strings.
 use Rattle.std.proofs.Common.{◌≡◌, ℕ, List, refl, ap, arith}
-use native.Mathlib.Decide.{dec_lt}
+use native.Mathlib.Decide.{dec_lt, ℕ_discrete}
 use Rattle.cells.specs.declared.Descriptor.{Descriptor}
 use Rattle.cells.specs.Meaning.{Memory}
 use Rattle.rules.specs.Lists.{In}
 use Rattle.heap.specs.declared.blocks.Block.{Block}
 use Rattle.heap.specs.declared.blocks.Blocks.{Blocks}
-use Rattle.heap.specs.Marks.{still, marked, Queue, Holding}
+use Rattle.heap.specs.Marks.{still, marked, Holding}
 use Rattle.heap.specs.Walks.{length_at, Tiled, Searched}
 use Rattle.heap.specs.Blocks.{Standing}
-use Rattle.heap.proofs.Cells.{same, apart, compare_cells}
 use Rattle.heap.proofs.Queues.{flags_of}
 use Rattle.heap.proofs.Scans.{in_grown, grew_twice}
 use Rattle.heap.proofs.Paths.{lower, next_stop}
 use Rattle.heap.proofs.Took.{Took}
 
 module _ (m : Memory) (ts : List ℕ) (bins end : ℕ) (a : Tiled m ts bins end) (ws : List ℕ) (n : ℕ) where
-  pub searched_none : (o : Memory) → Queue m ts ws n o → Searched m ts end bins ws n ws n o
-  searched_none o q =
-      record {
-        stop = a.start;
-        queue = q;
-        grew = record { more = omega arith; kept = λ i l. refl };
-        here = λ q k h l. absurd (let x = a.low q h in omega arith);
-        new = λ i k l. absurd (omega arith);
-      }
-
   module _ (w : Blocks) (ws' : List ℕ) (n' : ℕ) (o : Memory) (s : Searched m ts end w.at ws n ws' n' o) where
     -- A mark changes neither the kind nor the length of a title.
     pub standing_marked : w.end ≡ end → Standing m ts bins end w o
@@ -48,9 +37,9 @@ module _ (m : Memory) (ts : List ℕ) (bins end : ℕ) (a : Tiled m ts bins end)
           stop = next_stop m ts bins end a w w' b o t;
           queue = v.queue;
           grew = grew_twice ws ws' ws'' n n' n'' s.grew v.grew;
-          here = λ q j h x f y nn. elim (compare_cells q w.at) [
-            | same z ↦ rw z (v.here j (rw (← z) f) y (rw (← z) nn))
-            | apart z ↦ in_grown ws' ws'' n' n'' q v.grew (s.here q j h (lower m ts bins end a w w' b o t q h x z) f y nn)
+          here = λ q j h x f y nn. elim (ℕ_discrete q w.at) [
+            | yes z ↦ rw z (v.here j (rw (← z) f) y (rw (← z) nn))
+            | no z ↦ in_grown ws' ws'' n' n'' q v.grew (s.here q j h (lower m ts bins end a w w' b o t q h x z) f y nn)
           ];
           new = λ i x y. elim (dec_lt i n') [
             | yes z ↦ rw (v.grew.kept i z) (s.new i x z)

@@ -1,5 +1,5 @@
 -- How one stage of regeneration leads to the next.
-use Rattle.std.proofs.Common.{◌≡◌, ℕ, ◌+◌, ◌<◌, ◌≤◌, ◌⊎◌, List, length, get_or, pos, sym, refl, ap, ◌∙◌, inl, inr, ⊎_elim, arith}
+use Rattle.std.proofs.Common.{◌≡◌, ℕ, ◌+◌, ◌<◌, ◌≤◌, ◌⊎◌, List, length, get_or, pos, sym, refl, ap, ◌∙◌, inl, ⊎_elim, arith}
 use lib.Bits.{bit_and, bit_or}
 use Rattle.cells.specs.declared.Descriptor.{Descriptor}
 use Rattle.cells.specs.Meaning.{Memory}
@@ -7,35 +7,23 @@ use Rattle.rules.specs.Lists.{In}
 use Rattle.rules.specs.Model.{string_fields}
 use Rattle.rules.specs.Arena.{desc}
 use Rattle.rules.proofs.Coded.{pos_inj}
-use Rattle.arena.specs.Titles.{Back, count, with_mark, retitled}
+use Rattle.arena.specs.Titles.{count, with_mark, retitled}
 use Rattle.heap.specs.Marks.{IsMarked, Aims, Valued, plain, pointer, Queued, still, marked, Queue, along, Marked}
 use Rattle.heap.specs.Walks.{length_at, Tiled, To, begin, keep, skip, Tabled, Packed, Forwarded, fixed, moved, Renewed}
 use Rattle.heap.specs.Moves.{Ready, Goes, value_goes, pointer_goes, Relocated, Prepared}
 use Rattle.heap.specs.Moves as moves
-use Rattle.heap.proofs.Cells.{same, apart, compare_cells}
-use Rattle.heap.proofs.Queues.{flags_of, unmarked, queued, back_now, aim_below, lt_or}
+use Rattle.heap.proofs.Queues.{flags_of, unmarked, queued, back_now, aim_below, back_one}
 use Rattle.heap.proofs.Scans.{field_now}
 use Rattle.heap.proofs.Paths.{to_low, positive}
 use Rattle.heap.specs.Threads.{Rethreaded}
 use Rattle.heap.proofs.Values.{count_below}
 use Rattle.heap.proofs.Chains.{string_long}
 
--- Two titles before one cell are one.
-back_one : (m : Memory) (q k r j : ℕ) → Back m q k → Back m r j → q + k ≡ r + j → q ≡ r
-back_one m q k r j b c e =
-    elim (compare_cells q r) [
-      | same x ↦ x
-      | apart n ↦ elim (lt_or q r n) [
-        | inl l ↦ absurd (c.title (b.passed r l (omega arith)))
-        | inr l ↦ absurd (b.title (c.passed q l (omega arith)))
-      ]
-    ]
-
 clear_mark : (f : ℕ) → ((f ≡ 2) ⊎ (f ≡ 6)) → bit_and (bit_or f 8) 6 ≡ f
 clear_mark f h = ⊎_elim (λ e. rw e refl) (λ e. rw e refl) h
 
 -- Tiles are told by their titles alone.
-pub tiled_same : (o r : Memory) (ts : List ℕ) (bins end : ℕ) → r.figures ≡ o.figures → ((p : ℕ) → In p ts → (length_at r p ≡ length_at o p) × ((r.descriptor p).kind ≡ (o.descriptor p).kind)) → Tiled o ts bins end → Tiled r ts bins end
+tiled_same : (o r : Memory) (ts : List ℕ) (bins end : ℕ) → r.figures ≡ o.figures → ((p : ℕ) → In p ts → (length_at r p ≡ length_at o p) × ((r.descriptor p).kind ≡ (o.descriptor p).kind)) → Tiled o ts bins end → Tiled r ts bins end
 tiled_same o r ts bins end fg tt' a =
     record {
       start = a.start;
@@ -48,6 +36,9 @@ tiled_same o r ts bins end fg tt' a =
       within = rw fg a.within;
       places = rw fg a.places;
     }
+
+pub tiled_titles : (o r : Memory) (ts : List ℕ) (bins end : ℕ) → r.figures ≡ o.figures → ((p : ℕ) → In p ts → r.descriptor p ≡ o.descriptor p) → Tiled o ts bins end → Tiled r ts bins end
+tiled_titles o r ts bins end f d = tiled_same o r ts bins end f (λ p h. (rw (d p h, f) refl, ap (λ (x : Descriptor). x.kind) (d p h)))
 
 pub to_same : (o r : Memory) (ts : List ℕ) (bins : ℕ) → r.figures ≡ o.figures → ((p : ℕ) → In p ts → r.descriptor p ≡ o.descriptor p) → (p t : ℕ) → To o ts bins p t → To r ts bins p t
 to_same o r ts bins fg tt' p t (begin e f) = begin e f

@@ -1,5 +1,5 @@
 -- The stages of regeneration one after another, at the numbers that the code has.
-use Rattle.std.proofs.Common.{◌≡◌, ℕ, ◌<◌, ◌≤◌, ◌⊎◌, List, length, get_or, refl, ap, ◌∙◌, subst, ⊎_elim, arith}
+use Rattle.std.proofs.Common.{◌≡◌, ℕ, ◌<◌, ◌≤◌, ◌⊎◌, List, length, get_or, ap, ◌∙◌, subst, ⊎_elim, arith}
 use Rattle.cells.specs.declared.Descriptor.{Descriptor}
 use Rattle.cells.specs.Meaning.{Memory, Figures}
 use Rattle.rules.specs.Model.{Model}
@@ -9,8 +9,8 @@ use Rattle.heap.specs.Walks.{Tiled, Tabled, Packed}
 use Rattle.heap.specs.Moves.{Ready, Relocated, Prepared, Shifting}
 use Rattle.heap.specs.Threads.{Linkable, Threading, Headed, Heading, Rethreaded}
 use Rattle.heap.specs.Regeneration.{Begun, Traced, Regenerated}
-use Rattle.heap.proofs.Stages.{tiled_marked, tiled_same, to_same, prepared}
-use Rattle.heap.proofs.Chains.{rethreaded, tiled_rethreaded, threading_led}
+use Rattle.heap.proofs.Stages.{tiled_marked, tiled_titles, to_same, prepared}
+use Rattle.heap.proofs.Chains.{rethreaded, threading_led}
 use Rattle.heap.proofs.Totals.{tiled, registers_ready, new_link, new_head, new_linkable, new_headed, regenerated}
 
 start_tiled : {m : Model} {a : Arena} {m0 : Memory} {rs : List Descriptor} {bins end : ℕ} {ws : List ℕ} {n : ℕ} {o : Memory} → Begun m a m0 rs bins end ws n o →
@@ -57,8 +57,7 @@ module _ {m : Model} {a : Arena} {m0 : Memory} {rs : List Descriptor} {bins end 
     stage_linkable = new_linkable m a m0 b.sound b.shows rs b.same_length b.registers x.roots x.first b.rooted ws x.tail o x.marked t tb long_enough tab' r rl'
 
     pub thread_tiled : Tiled r (titles_of m a m0) bins end
-    thread_tiled =
-        tiled_same o r _ bins end rl.figures (λ p h. (rw (rl.titles p h, rl.figures) refl, ap (λ (x : Descriptor). x.kind) (rl.titles p h))) (stage_tiled x)
+    thread_tiled = tiled_titles o r _ bins end rl.figures rl.titles (stage_tiled x)
 
     module _ {u : Memory} (th : Threading r (titles_of m a m0) stage_link end end u) where
       pub heads_below : bins ≤ u.figures.cells
@@ -85,7 +84,7 @@ module _ {m : Model} {a : Arena} {m0 : Memory} {rs : List Descriptor} {bins end 
         rt = rethreaded r _ bins end thread_tiled stage_link stage_head u v th hd
 
         pub pack_tiled : Tiled v (titles_of m a m0) bins end
-        pack_tiled = tiled_rethreaded r _ bins end thread_tiled stage_link stage_head u v th hd
+        pack_tiled = tiled_titles r v _ bins end rt.figures rt.titles thread_tiled
 
         pub pack_room : v.figures.cells ≤ length tb
         pack_room = let e = ap (λ (x : Figures). x.cells) (rt.figures ∙ rl.figures) in let s = stage_room x in let l = long in omega arith

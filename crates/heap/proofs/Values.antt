@@ -1,5 +1,6 @@
 -- Values and their new descriptors.
 use Rattle.std.proofs.Common.{◌≡◌, ℕ, ◌+◌, ◌-◌, ◌<◌, ◌≤◌, Bool, true, false, cond, eqb, ◌≢◌, ◌⊎◌, List, length, get_or, set, pos, Ok, Result, sym, refl, ap, ◌∙◌, subst, inl, inr, ⊎_elim, arith, length-set, get_or-set_other, get_or-set_same}
+use native.Mathlib.Decide.{ℕ_discrete}
 use lib.Bits.{bit_and}
 use Rattle.std.proofs.lemmas.List.{get_or_default}
 use Rattle.cells.specs.declared.Descriptor.{Descriptor}
@@ -13,7 +14,6 @@ use Rattle.heap.specs.declared.blocks.Block.{Block}
 use Rattle.heap.specs.declared.blocks.Blocks.{Blocks}
 use Rattle.heap.specs.Walks.{length_at, Tiled}
 use Rattle.heap.specs.Moves.{Hits, Ready, value, pointer, Goes, value_goes, pointer_goes, Relocating, Relocated, Prepared, Shifting}
-use Rattle.heap.proofs.Cells.{same, apart, compare_cells}
 use Rattle.heap.proofs.Paths.{less, equal, more, order_of, lower, next_stop}
 use Rattle.heap.proofs.Took.{Took}
 
@@ -31,16 +31,6 @@ hits_flags m r ws d q i fg fl h =
       small = h.small;
     }
 
-pub relocating_none : (m : Memory) (ws : List ℕ) (p : ℕ) → Relocating m ws p (p + 1 - (p + 1)) m
-relocating_none m ws p =
-    record {
-      figures = refl;
-      flags = λ c. refl;
-      done = λ j l. absurd (let z : p + 1 - (p + 1) ≡ 0 = omega arith in omega arith);
-      rest = λ c l. refl;
-      rest_characters = λ c j l. refl;
-    }
-
 pub ready_field : (m : Memory) (ws : List ℕ) (p n : ℕ) → ((k : ℕ) → k < n → Ready m ws (m.descriptor (p + 1 + k))) → (c : ℕ) → p < c → c < p + 1 + n → Ready m ws (m.descriptor c)
 ready_field m ws p n re c low l = let e : p + 1 + (c - (p + 1)) ≡ c = omega arith in rw e at (re (c - (p + 1)) (omega arith))
 
@@ -48,9 +38,6 @@ ready_field m ws p n re c low l = let e : p + 1 + (c - (p + 1)) ≡ c = omega ar
 module _ (m : Memory) (ws : List ℕ) (p c : ℕ) (low : p < c) (r : Memory) (s : Relocating m ws p (c - (p + 1)) r) where
   field : p + 1 + (c - (p + 1)) ≡ c
   field = omega arith
-
-  hits_now : (d : Descriptor) (q i : ℕ) → Hits m ws d q i → Hits r ws d q i
-  hits_now d q i h = hits_flags m r ws d q i s.figures s.flags h
 
   pub read_field : r.descriptor c ≡ m.descriptor c
   read_field = s.rest c (inr (omega arith))
@@ -60,13 +47,13 @@ module _ (m : Memory) (ws : List ℕ) (p c : ℕ) (low : p < c) (r : Memory) (s 
   relocating_more d d' r' e fl go w =
       record {
         figures = w.figures ∙ s.figures;
-        flags = λ i. elim (compare_cells i c) [
-          | same z ↦ rw z (ap (λ (x : Descriptor). x.flags) w.here ∙ fl ∙ ap (λ (x : Descriptor). x.flags) e)
-          | apart z ↦ ap (λ (x : Descriptor). x.flags) (w.descriptors i z) ∙ s.flags i
+        flags = λ i. elim (ℕ_discrete i c) [
+          | yes z ↦ rw z (ap (λ (x : Descriptor). x.flags) w.here ∙ fl ∙ ap (λ (x : Descriptor). x.flags) e)
+          | no z ↦ ap (λ (x : Descriptor). x.flags) (w.descriptors i z) ∙ s.flags i
         ];
-        done = λ j l. elim (compare_cells (p + 1 + j) c) [
-          | same z ↦ rw (z, w.here, ← e) go
-          | apart z ↦ rw (w.descriptors (p + 1 + j) z) (s.done j (omega arith))
+        done = λ j l. elim (ℕ_discrete (p + 1 + j) c) [
+          | yes z ↦ rw (z, w.here, ← e) go
+          | no z ↦ rw (w.descriptors (p + 1 + j) z) (s.done j (omega arith))
         ];
         rest = λ i l. w.descriptors i (⊎_elim (λ x. omega arith) (λ x. omega arith) l) ∙ s.rest i (⊎_elim (λ x. inl x) (λ x. inr (omega arith)) l);
         rest_characters = λ i j l. w.characters i j (⊎_elim (λ x. omega arith) (λ x. omega arith) l) ∙ s.rest_characters i j (⊎_elim (λ x. inl x) (λ x. inr (omega arith)) l);
@@ -78,9 +65,9 @@ module _ (m : Memory) (ws : List ℕ) (p c : ℕ) (low : p < c) (r : Memory) (s 
       record {
         figures = s.figures;
         flags = s.flags;
-        done = λ j l. elim (compare_cells (p + 1 + j) c) [
-          | same x ↦ rw (x, read_field) (by _ (rw e at z) y)
-          | apart x ↦ s.done j (omega arith)
+        done = λ j l. elim (ℕ_discrete (p + 1 + j) c) [
+          | yes x ↦ rw (x, read_field) (by _ (rw e at z) y)
+          | no x ↦ s.done j (omega arith)
         ];
         rest = λ i l. s.rest i (⊎_elim (λ x. inl x) (λ x. inr (omega arith)) l);
         rest_characters = λ i j l. s.rest_characters i j (⊎_elim (λ x. inl x) (λ x. inr (omega arith)) l);
@@ -90,18 +77,30 @@ module _ (m : Memory) (ws : List ℕ) (p c : ℕ) (low : p < c) (r : Memory) (s 
       by e z (value f) = value_goes f refl
       by e z (pointer q i h) = absurd (let w : bit_and 16 16 ≡ 0 = rw h.flag at z in omega arith)
 
+ready_flags : (m r : Memory) (ws : List ℕ) (d : Descriptor) → r.figures ≡ m.figures → ((c : ℕ) → (r.descriptor c).flags ≡ (m.descriptor c).flags) → Ready m ws d → Ready r ws d
+ready_flags m r ws d fg fl (value z) = value z
+ready_flags m r ws d fg fl (pointer q k h) = pointer q k (hits_flags m r ws d q k fg fl h)
+
+goes_flags : (m r : Memory) (ws : List ℕ) (d d' : Descriptor) → r.figures ≡ m.figures → ((c : ℕ) → (r.descriptor c).flags ≡ (m.descriptor c).flags) → Goes m ws d d' → Goes r ws d d'
+goes_flags m r ws d d' fg fl (value_goes z e) = value_goes z e
+goes_flags m r ws d d' fg fl (pointer_goes q k h e) = pointer_goes q k (hits_flags m r ws d q k fg fl h) e
+
 -- What `forward` gives, from its two clauses.
 pub record Came (m : Memory) (ws : List ℕ) (d d' : Descriptor) : Type 0 where
   pub goes : Goes m ws d d'
   pub flags : d'.flags ≡ d.flags
   pub kind : d'.kind ≡ d.kind
 
-pub came_value : (m : Memory) (ws : List ℕ) (d d' : Descriptor) → d.flags ≡ 0 → d' ≡ d → Came m ws d d'
-came_value m ws d d' z e = record { goes = value_goes z e; flags = ap (λ (x : Descriptor). x.flags) e; kind = ap (λ (x : Descriptor). x.kind) e }
+came : (m : Memory) (ws : List ℕ) (d : Descriptor) (res : Result Descriptor HeapFault) → (d.flags ≡ 0 → res ≡ Ok d) →
+    ((q i : ℕ) → Hits m ws d q i → res ≡ Ok (desc (pos (get_or ws q 0 + i)) 16 d.kind)) → Ready m ws d → (d' : Descriptor) × (res ≡ Ok d') × Came m ws d d'
+came m ws d res pl mo (value z) = (d, pl z, record { goes = value_goes z refl; flags = refl; kind = refl })
+came m ws d res pl mo (pointer q i h) = (desc (pos (get_or ws q 0 + i)) 16 d.kind, mo q i h, record { goes = pointer_goes q i h refl; flags = sym h.flag; kind = refl })
 
-pub came_pointer : (m : Memory) (ws : List ℕ) (d d' : Descriptor) (q k : ℕ) → Hits m ws d q k → d' ≡ desc (pos (get_or ws q 0 + k)) 16 d.kind → Came m ws d d'
-came_pointer m ws d d' q k h e =
-    record { goes = pointer_goes q k h e; flags = ap (λ (x : Descriptor). x.flags) e ∙ sym h.flag; kind = ap (λ (x : Descriptor). x.kind) e }
+-- A register and what `forward` gives for it.
+pub forward_one : (m : Memory) (ws : List ℕ) (d e : Descriptor) (res : Result Descriptor HeapFault) → d ≡ e → (d.flags ≡ 0 → res ≡ Ok d) →
+    ((q i : ℕ) → Hits m ws d q i → res ≡ Ok (desc (pos (get_or ws q 0 + i)) 16 d.kind)) → Ready m ws e → (d' : Descriptor) × (res ≡ Ok d') × Goes m ws e d'
+forward_one m ws d e res x pl mo =
+    subst (λ (e : Descriptor). Ready m ws e → (d' : Descriptor) × (res ≡ Ok d') × Goes m ws e d') x (λ y. let w = came m ws d res pl mo y in (w.0, w.1, w.2.goes))
 
 came_small : (m : Memory) (ws : List ℕ) (d d' : Descriptor) → Came m ws d d' → d'.flags ≤ 31
 came_small m ws d d' b = let f = b.flags in by b.goes
@@ -114,11 +113,9 @@ module _ (m : Memory) (ws : List ℕ) (p c : ℕ) (low : p < c) (r : Memory) (s 
   pub forward_gives : (res : Result Descriptor HeapFault) → (d.flags ≡ 0 → res ≡ Ok d) →
       ((q i : ℕ) → Hits r ws d q i → res ≡ Ok (desc (pos (get_or ws q 0 + i)) 16 d.kind)) → Ready m ws (m.descriptor c) →
       (d' : Descriptor) × (res ≡ Ok d') × Came m ws d d'
-  forward_gives res pl mo y = by (rw (← read) at y)
-    where
-      by : Ready m ws d → (d' : Descriptor) × (res ≡ Ok d') × Came m ws d d'
-      by (value z) = (d, pl z, came_value m ws d d z refl)
-      by (pointer q i h) = (desc (pos (get_or ws q 0 + i)) 16 d.kind, mo q i (hits_now m ws p c low r s d q i h), came_pointer m ws d _ q i h refl)
+  forward_gives res pl mo y =
+      let w = came r ws d res pl mo (ready_flags m r ws d s.figures s.flags (rw read y)) in
+      (w.0, w.1, record { goes = goes_flags r m ws d w.0 (sym s.figures) (λ i. sym (s.flags i)) w.2.goes; flags = w.2.flags; kind = w.2.kind })
 
   pub fits_new : (d' : Descriptor) → Came m ws d d' → Sound r → c < m.figures.cells → (c < r.figures.cells) × FitDescriptor r.figures d'
   fits_new d' b snd l =
@@ -135,28 +132,7 @@ count_below c d = by (eqb (bit_and d.flags 4) 0)
     by true = omega arith
     by false = omega arith
 
-ready_flags : (m r : Memory) (ws : List ℕ) (d : Descriptor) → r.figures ≡ m.figures → ((c : ℕ) → (r.descriptor c).flags ≡ (m.descriptor c).flags) → Ready m ws d → Ready r ws d
-ready_flags m r ws d fg fl (value z) = value z
-ready_flags m r ws d fg fl (pointer q k h) = pointer q k (hits_flags m r ws d q k fg fl h)
-
-goes_flags : (m r : Memory) (ws : List ℕ) (d d' : Descriptor) → r.figures ≡ m.figures → ((c : ℕ) → (r.descriptor c).flags ≡ (m.descriptor c).flags) → Goes m ws d d' → Goes r ws d d'
-goes_flags m r ws d d' fg fl (value_goes z e) = value_goes z e
-goes_flags m r ws d d' fg fl (pointer_goes q k h e) = pointer_goes q k (hits_flags m r ws d q k fg fl h) e
-
 module _ (o : Memory) (ts ws : List ℕ) (bins end : ℕ) (a : Tiled o ts bins end) where
-  pub relocated_none : Relocated o ts ws bins end bins o
-  relocated_none =
-      record {
-        stop = a.start;
-        figures = refl;
-        flags = λ c. refl;
-        done = λ q k h l. absurd (let x = a.low q h in omega arith);
-        titles = λ q h. refl;
-        rest = λ c l. refl;
-        links = λ q k h l m. refl;
-        tails = λ q k j h l m. refl;
-      }
-
   module _ (w w' : Blocks) (b : Block) (r : Memory) (t : Took o ts w b r w') (s : Relocated o ts ws bins end w.at r) where
     read : b.title ≡ o.descriptor w.at
     read = t.title ∙ s.titles w.at t.here
@@ -194,10 +170,10 @@ module _ (o : Memory) (ts ws : List ℕ) (bins end : ℕ) (a : Tiled o ts bins e
             stop = next_stop o ts bins end a w w' b r t;
             figures = g.figures ∙ s.figures;
             flags = λ c. g.flags c ∙ s.flags c;
-            done = λ q k h x mq y. elim (compare_cells q w.at) [
-              | same z ↦ rw z (let y' : k < count b.title = rw (ap count read, ← z) y in
+            done = λ q k h x mq y. elim (ℕ_discrete q w.at) [
+              | yes z ↦ rw z (let y' : k < count b.title = rw (ap count read, ← z) y in
                   rw (s.rest (w.at + 1 + k) (inr (omega arith))) at (goes_flags r o ws _ _ (sym s.figures) (λ c. sym (s.flags c)) (g.done k y')))
-              | apart z ↦ (let u = lower o ts bins end a w w' b r t q h x z in let v = a.gap q w.at h t.here u in let n = count_below o.figures.places (o.descriptor q) in
+              | no z ↦ (let u = lower o ts bins end a w w' b r t q h x z in let v = a.gap q w.at h t.here u in let n = count_below o.figures.places (o.descriptor q) in
                   rw (g.rest (q + 1 + k) (inl (omega arith))) (s.done q k h u mq y))
             ];
             titles = λ q h. g.rest q (side q h) ∙ s.titles q h;
@@ -217,19 +193,7 @@ module _ (o : Memory) (ts ws : List ℕ) (bins end : ℕ) (a : Tiled o ts bins e
             | more u ↦ inr (let g = a.gap w.at q t.here h u in let v = mv in omega arith)
           ]
 
--- A register and what `forward` gives for it.
-pub forward_one : (m : Memory) (ws : List ℕ) (d e : Descriptor) (res : Result Descriptor HeapFault) → d ≡ e → (d.flags ≡ 0 → res ≡ Ok d) →
-    ((q i : ℕ) → Hits m ws d q i → res ≡ Ok (desc (pos (get_or ws q 0 + i)) 16 d.kind)) → Ready m ws e → (d' : Descriptor) × (res ≡ Ok d') × Goes m ws e d'
-forward_one m ws d e res x pl mo y = subst (λ (e : Descriptor). Ready m ws e → (d' : Descriptor) × (res ≡ Ok d') × Goes m ws e d') x by y
-  where
-    by : Ready m ws d → (d' : Descriptor) × (res ≡ Ok d') × Goes m ws d d'
-    by (value z) = (d, pl z, value_goes z refl)
-    by (pointer q i h) = (desc (pos (get_or ws q 0 + i)) 16 d.kind, mo q i h, pointer_goes q i h refl)
-
 module _ (o : Memory) (ws : List ℕ) (rs : List Descriptor) where
-  pub shifting_none : Shifting o ws rs 0 rs
-  shifting_none = record { same_length = refl; done = λ i l. absurd (omega arith); rest = λ i l. refl }
-
   pub shifting_read : (k : ℕ) (rs' : List Descriptor) (x : Descriptor) → Shifting o ws rs k rs' → k < length rs' → get_or rs' k x ≡ get_or rs k null_desc
   shifting_read k rs' x s l = get_or_default rs' k x null_desc l ∙ s.rest k (omega arith)
 
@@ -237,9 +201,9 @@ module _ (o : Memory) (ws : List ℕ) (rs : List Descriptor) where
   shifting_more k rs' d' s l go =
       record {
         same_length = length-set rs' k d' ∙ s.same_length;
-        done = λ i x. elim (compare_cells i k) [
-          | same z ↦ rw (z, get_or-set_same rs' k d' null_desc l) go
-          | apart z ↦ rw (get_or-set_other rs' k i d' null_desc z) (s.done i (omega arith))
+        done = λ i x. elim (ℕ_discrete i k) [
+          | yes z ↦ rw (z, get_or-set_same rs' k d' null_desc l) go
+          | no z ↦ rw (get_or-set_other rs' k i d' null_desc z) (s.done i (omega arith))
         ];
         rest = λ i x. get_or-set_other rs' k i d' null_desc (omega arith) ∙ s.rest i (omega arith);
       }

@@ -1,9 +1,9 @@
-// What marking and by-passing ask of a descriptor.
+// What marking and moving ask of a descriptor.
 ghost use Rattle.std.specs.Prelude.{◌≡◌, true, false, ◌≢◌, ◌⊎◌, pos, bit_and};
 ghost use Rattle.rules.specs.Arena.{desc, null_desc};
 
-use arena::POINTER;
 use arena::titles::is_null;
+use arena::{MARK, POINTER, STRING};
 use cells::Descriptor;
 
 // Whether a descriptor is a pointer.
@@ -12,6 +12,22 @@ pub fn is_pointer(d: Descriptor) -> bool
     ensures no { result ≡ false → bit_and d.flags 16 ≡ 0 }
 {
     d.flags & POINTER != 0
+}
+
+// Whether a title has the mark.
+pub fn is_marked(title: Descriptor) -> bool
+    ensures yes { result ≡ true → bit_and title.flags 8 ≢ 0 }
+    ensures no { result ≡ false → bit_and title.flags 8 ≡ 0 }
+{
+    title.flags & MARK != 0
+}
+
+// Whether a title is that of a string.
+pub fn is_string(title: Descriptor) -> bool
+    ensures yes { result ≡ true → bit_and title.flags 4 ≢ 0 }
+    ensures no { result ≡ false → bit_and title.flags 4 ≡ 0 }
+{
+    title.flags & STRING != 0
 }
 
 // Whether a string holds something: its value or its label is not null.

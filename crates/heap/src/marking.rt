@@ -10,11 +10,11 @@ ghost use Rattle.heap.specs.Regeneration.{Gives, Shown, Traced};
 ghost use Rattle.heap.specs.Walks.{Tiled, Searched};
 
 use crate::blocks::{Block, Blocks};
-use crate::descriptors::{holds, is_pointer};
+use crate::descriptors::{holds, is_marked, is_pointer, is_string};
+use arena::MOST_CELLS;
 use arena::extent::Extent;
 use arena::faults::{HeapFault, Rule};
 use arena::titles::{cell_of, field_count, marked, title_of};
-use arena::{MARK, MOST_CELLS, STRING};
 use cells::{Descriptor, Store};
 
 // A queue of marked titles, none twice, that only grows: the entries of a lent list below the tail.
@@ -32,7 +32,7 @@ impl WorkList<'_> {
         ensures same_list { self.new.titles.ghost_name ≡ self.old.titles.ghost_name }
     {
         let t = store.descriptor(title)?;
-        if t.flags & MARK != 0 {
+        if is_marked(t) {
             return Ok(());
         }
         if self.tail >= self.titles.len() {
@@ -124,7 +124,7 @@ impl WorkList<'_> {
             ((result ≡ Ok tt) × Holding m block.now.at self.old.titles.now self.old.tail ts self.new.titles.now self.new.tail (S.memory store.new)) }
         ensures same_list { self.new.titles.ghost_name ≡ self.old.titles.ghost_name }
     {
-        if block.title.flags & STRING == 0 {
+        if !is_string(block.title) {
             return Ok(());
         }
         let value = store.descriptor(block.at + 1)?;

@@ -6,11 +6,11 @@ ghost use Rattle.heap.specs.Walks.{Slid, Tiled, Tabled, Brought, Packed};
 ghost use Rattle.heap.specs.Moves.{Hits, Ready, Relocating, Relocated, Prepared, Shifting};
 
 use crate::blocks::{Block, Blocks};
-use crate::descriptors::is_pointer;
+use crate::descriptors::{is_marked, is_pointer};
+use arena::MOST_CELLS;
 use arena::extent::Extent;
 use arena::faults::{HeapFault, Rule};
 use arena::titles::{cell_of, field_count, new_title, pointer_at, title_of};
-use arena::{MARK, MOST_CELLS};
 use cells::{Descriptor, Store};
 
 // Writes the new cell of each marked title into the table, and gives the first cell that is free then.
@@ -21,7 +21,7 @@ pub fn layout<S: Store>(store: &S, extent: Extent, work: &mut [u32]) -> Result<u
     let mut blocks = Blocks::of(extent)?;
     let mut to = extent.bins;
     while let Some(block) = blocks.step(store)? {
-        if block.title.flags & MARK != 0 {
+        if is_marked(block.title) {
             if block.at as usize >= work.len() {
                 return Err(HeapFault::Unlawful(Rule::Titles, block.at));
             }
@@ -81,7 +81,7 @@ pub fn relocate<S: Store>(store: &mut S, extent: Extent, work: &[u32]) -> Result
 {
     let mut blocks = Blocks::of(extent)?;
     while let Some(block) = blocks.step(store)? {
-        if block.title.flags & MARK != 0 {
+        if is_marked(block.title) {
             relocate_block(store, &block, work)?;
         }
     }
@@ -139,7 +139,7 @@ pub fn pack<S: Store>(store: &mut S, extent: Extent, work: &[u32]) -> Result<(),
 {
     let mut blocks = Blocks::of(extent)?;
     while let Some(block) = blocks.step(store)? {
-        if block.title.flags & MARK != 0 {
+        if is_marked(block.title) {
             let to = new_cell(work, block.at)?;
             bring(store, &block, to)?;
         }

@@ -7,12 +7,12 @@ ghost use Rattle.heap.specs.Walks.{Tiled};
 ghost use Rattle.heap.specs.Threads.{Led, Linkable, Threading, Headed, Heading};
 
 use crate::blocks::Blocks;
-use crate::descriptors::{is_pointer, last_link};
+use crate::descriptors::{is_marked, is_pointer, is_string, last_link};
 use crate::moving::new_cell;
+use arena::STRING_FIELDS;
 use arena::extent::Extent;
 use arena::faults::{HeapFault, Rule};
 use arena::titles::{cell_of, pointer_at};
-use arena::{MARK, STRING, STRING_FIELDS};
 use cells::{Descriptor, Store};
 
 // A head or a link, past the strings that are not marked, to the new cell of the next one.
@@ -26,7 +26,7 @@ pub fn relinked<S: Store>(store: &S, d: Descriptor, work: &[u32]) -> Result<Desc
         }
         let at = cell_of(link)?;
         let t = store.descriptor(at)?;
-        if t.flags & MARK != 0 {
+        if is_marked(t) {
             return pointer_at(new_cell(work, at)?, d.kind);
         }
         link = store.descriptor(at + 1 + STRING_FIELDS)?;
@@ -53,7 +53,7 @@ pub fn thread_links<S: Store>(store: &mut S, extent: Extent, work: &[u32]) -> Re
 {
     let mut blocks = Blocks::of(extent)?;
     while let Some(block) = blocks.step(store)? {
-        if block.title.flags & MARK != 0 && block.title.flags & STRING != 0 {
+        if is_marked(block.title) && is_string(block.title) {
             relink(store, block.at + 1 + STRING_FIELDS, work)?;
         }
     }

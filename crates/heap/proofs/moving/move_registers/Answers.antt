@@ -1,11 +1,8 @@
-use Rattle.std.proofs.Common.{◌≡◌, ◌<◌, length, pos, refl, arith}
+use Rattle.std.proofs.Common.{◌<◌, length, pos, arith}
 use Rattle.rules.specs.Arena.{desc}
 use Rattle.heap.proofs.Outcomes.{ok_same, ok_not_err}
-use Rattle.heap.proofs.Values.{forward_one, shifting_none, shifting_read, shifting_more}
+use Rattle.heap.proofs.Values.{forward_one, shifting_read, shifting_more}
 use Rattle.heap.proofs.moving.move_registers.Goals as goal
-
-pub loop-register-init : goal.loop-register-init
-loop-register-init g c re = shifting_none _ _ _
 
 pub returns-in_err-register : goal.returns-in_err-register
 returns-in_err-register g c re =
@@ -22,8 +19,3 @@ loop-register-preserved g c re =
     let e = shifting_read _ _ _ c.loop-register.register-index _ (desc (pos 0) 0 0) s l in
     let w = forward_one _ _ _ _ _ e c.in_ok-register.ensures.plain c.in_ok-register.ensures.moved (re c.loop-register.register-index (omega arith)) in
     shifting_more _ _ _ c.loop-register.register-index _ _ s l (rw (← (ok_same _ _ w.1)) at w.2)
-
-pub returns : goal.returns
-returns g c re =
-    let k : c.loop-register.register-index ≡ length c.args.registers.now = (let l = c.loop-register-test.false in let e = c.loop-register.auto.register-index-end in omega arith) in
-    (refl, rw k at (c.loop-register.invariant re))

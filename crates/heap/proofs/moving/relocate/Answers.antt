@@ -16,7 +16,7 @@ loop-block-preserved-in-Continue-branch-4 g c =
       λ ts a pr.
           let s = c.loop-block.invariant.1 ts a pr in
           let t = took (standing a c.loop-block.invariant.0 s.stop s.figures (s.titles _)) c.in-Some.is c.in_ok-block.ensures.passed c.in_ok-block.ensures.walked in
-          let m = c.if-block-ne0.true in
+          let m = (c.is_marked.ensures.yes c.if-is_marked.true) in
           relocated_keep _ ts _ _ _ a _ _ _ _ t s m _
           (c.relocate_block.ensures (fields_fit _ ts _ _ _ a _ _ _ _ t s m) (ready_now _ ts _ _ _ a _ _ _ _ t s m pr)).1,
     )
@@ -25,7 +25,7 @@ pub returns-in_err-relocate_block : goal.returns-in_err-relocate_block
 returns-in_err-relocate_block g c ts a pr =
     let s = c.loop-block.invariant.1 ts a pr in
     let t = took (standing a c.loop-block.invariant.0 s.stop s.figures (s.titles _)) c.in-Some.is c.in_ok-block.ensures.passed c.in_ok-block.ensures.walked in
-    let m = c.if-block-ne0.true in
+    let m = (c.is_marked.ensures.yes c.if-is_marked.true) in
     ok_not_err (c.relocate_block.ensures (fields_fit _ ts _ _ _ a _ _ _ _ t s m) (ready_now _ ts _ _ _ a _ _ _ _ t s m pr)).0 c.in_err-relocate_block.was
 
 pub loop-block-preserved : goal.loop-block-preserved
@@ -35,5 +35,5 @@ loop-block-preserved g c =
       λ ts a pr.
           let s = c.loop-block.invariant.1 ts a pr in
           let t = took (standing a c.loop-block.invariant.0 s.stop s.figures (s.titles _)) c.in-Some.is c.in_ok-block.ensures.passed c.in_ok-block.ensures.walked in
-          relocated_skip _ ts _ _ _ a _ _ _ _ t s c.if-block-ne0.false,
+          relocated_skip _ ts _ _ _ a _ _ _ _ t s (c.is_marked.ensures.no c.if-is_marked.false),
     )

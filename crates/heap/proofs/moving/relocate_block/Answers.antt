@@ -2,12 +2,9 @@ use Rattle.std.proofs.Common.{◌≡◌, ◌+◌, ◌-◌, refl, ap, ◌∙◌, 
 use Rattle.cells.proofs.Acts.{descriptor_written}
 use Rattle.arena.specs.Titles.{count}
 use Rattle.heap.proofs.Outcomes.{ok_same, ok_not_err}
-use Rattle.heap.proofs.Values.{relocating_none, ready_field, read_field, forward_gives, fits_new, relocating_more, relocating_same}
+use Rattle.heap.proofs.Values.{ready_field, read_field, forward_gives, fits_new, relocating_more, relocating_same}
 use Rattle.heap.proofs.moving.relocate_block.Goals as goal
 use Rattle.heap.proofs.moving.relocate_block.Goals.{then-is_pointer+in_ok-moved+in_ok-set_descriptor, else-is_pointer}
-
-pub loop-cell-init : goal.loop-cell-init
-loop-cell-init g c b re = relocating_none _ _ _
 
 pub returns-in_err-moved : goal.returns-in_err-moved
 returns-in_err-moved g c b re =

@@ -1,10 +1,6 @@
-use Rattle.std.proofs.Common.{◌≡◌, refl, arith}
 use Rattle.heap.proofs.Outcomes.{ok_not_err}
-use Rattle.heap.proofs.Chains.{heading_none, heading_led, heading_below, heading_more}
+use Rattle.heap.proofs.Chains.{heading_led, heading_below, heading_more}
 use Rattle.heap.proofs.threading.thread_heads.Goals as goal
-
-pub loop-b-init : goal.loop-b-init
-loop-b-init g c ts head w low h = heading_none _ ts c.args.bins low head
 
 pub returns-in_err-relink : goal.returns-in_err-relink
 returns-in_err-relink g c ts head w low h =
@@ -16,8 +12,3 @@ loop-b-preserved g c ts head w low h =
     let s = c.loop-b.invariant ts head w low h in
     heading_more _ ts c.args.bins low head c.loop-b.b _ s c.loop-b-test.true _
     (c.relink.ensures ts _ (heading_below _ ts c.args.bins low head c.loop-b.b _ s c.loop-b-test.true w) (heading_led _ ts c.args.bins low head c.loop-b.b _ s c.loop-b-test.true _ h)).1
-
-pub returns : goal.returns
-returns g c ts head w low h =
-    let k : c.loop-b.b ≡ c.args.bins = (let l = c.loop-b-test.false in let e = c.loop-b.auto.b-end in omega arith) in
-    (refl, rw k at (c.loop-b.invariant ts head w low h))

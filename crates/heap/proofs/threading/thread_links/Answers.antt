@@ -3,7 +3,7 @@ use Rattle.heap.proofs.Outcomes.{ok_not_err}
 use Rattle.heap.proofs.Took.{standing, took, over}
 use Rattle.heap.proofs.Chains.{threading_titles, link_below, link_led, threading_skip, threading_keep}
 use Rattle.heap.proofs.threading.thread_links.Goals as goal
-use Rattle.heap.proofs.threading.thread_links.Goals.{else-block-ne0-via-then-block-ne0+else-block-ne0-2, else-block-ne0-via-else-block-ne0}
+use Rattle.heap.proofs.threading.thread_links.Goals.{else-is_marked-via-then-is_marked+else-is_string, else-is_marked-via-else-is_marked}
 
 pub returns-in_err-block : goal.returns-in_err-block
 returns-in_err-block g c ts link a lk =
@@ -14,17 +14,17 @@ pub returns-in_err-relink : goal.returns-in_err-relink
 returns-in_err-relink g c ts link a lk =
     let s = c.loop-block.invariant.1 ts link a lk in
     let t = took (standing a c.loop-block.invariant.0 s.stop s.figures (threading_titles _ ts _ _ a link _ _ s _)) c.in-Some.is c.in_ok-block.ensures.passed c.in_ok-block.ensures.walked in
-    let m = c.if-block-ne0.true in let f = c.if-block-ne0-2.true in
+    let m = (c.is_marked.ensures.yes c.if-is_marked.true) in let f = (c.is_string.ensures.yes c.if-is_string.true) in
     ok_not_err (c.relink.ensures ts _ (link_below _ ts _ _ a link _ _ _ _ t s m f) (link_led _ ts _ _ a link _ _ _ _ t s m f _ lk)).0 c.in_err-relink.was
 
-pub loop-block-preserved-then-block-ne0-2 : goal.loop-block-preserved-then-block-ne0-2
-loop-block-preserved-then-block-ne0-2 g c =
+pub loop-block-preserved-then-is_string : goal.loop-block-preserved-then-is_string
+loop-block-preserved-then-is_string g c =
     let k = rw c.in-Some.is at c.in_ok-block.ensures.walked in (
       k.5 ∙ c.loop-block.invariant.0,
       λ ts link a lk.
           let s = c.loop-block.invariant.1 ts link a lk in
           let t = took (standing a c.loop-block.invariant.0 s.stop s.figures (threading_titles _ ts _ _ a link _ _ s _)) c.in-Some.is c.in_ok-block.ensures.passed c.in_ok-block.ensures.walked in
-          let m = c.if-block-ne0.true in let f = c.if-block-ne0-2.true in
+          let m = (c.is_marked.ensures.yes c.if-is_marked.true) in let f = (c.is_string.ensures.yes c.if-is_string.true) in
           threading_keep _ ts _ _ a link _ _ _ _ t s m f _
           (c.relink.ensures ts _ (link_below _ ts _ _ a link _ _ _ _ t s m f) (link_led _ ts _ _ a link _ _ _ _ t s m f _ lk)).1,
     )
@@ -37,7 +37,10 @@ loop-block-preserved g c =
           let s = c.loop-block.invariant.1 ts link a lk in
           let t = took (standing a c.loop-block.invariant.0 s.stop s.figures (threading_titles _ ts _ _ a link _ _ s _)) c.in-Some.is c.in_ok-block.ensures.passed c.in_ok-block.ensures.walked in
           threading_skip _ ts _ _ a link _ _ _ _ t s
-          (elim c.else-block-ne0.branch [ else-block-ne0-via-then-block-ne0+else-block-ne0-2 v ↦ inr v.if-block-ne0-2.false | else-block-ne0-via-else-block-ne0 v ↦ inl v.if-block-ne0.false ]),
+          (elim c.else-is_marked.branch [
+            | else-is_marked-via-then-is_marked+else-is_string v ↦ inr (v.is_string.ensures.no v.if-is_string.false)
+            | else-is_marked-via-else-is_marked v ↦ inl (c.is_marked.ensures.no v.if-is_marked.false)
+          ]),
     )
 
 pub returns : goal.returns

@@ -2,11 +2,8 @@ use Rattle.std.proofs.Common.{◌≡◌, length, pos, refl, ◌∙◌, arith}
 use Rattle.std.proofs.lemmas.List.{get_or_default}
 use Rattle.rules.specs.Arena.{desc, null_desc}
 use Rattle.heap.proofs.Outcomes.{ok_not_err}
-use Rattle.heap.proofs.Scans.{registered_none, registered_more, valued_at}
+use Rattle.heap.proofs.Scans.{registered_more, valued_at}
 use Rattle.heap.proofs.marking.WorkList.add_registers.Goals as goal
-
-pub loop-d-init : goal.loop-d-init
-loop-d-init g c = (refl, λ m ts a v. registered_none m ts _ _ _ _ a)
 
 pub loop-d-preserved : goal.loop-d-preserved
 loop-d-preserved g c = (

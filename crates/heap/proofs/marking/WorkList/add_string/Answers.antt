@@ -8,8 +8,8 @@ returns-clause-added g c m ts a h e =
     elim (c.holds.ensures.yes c.if-not-holds.false) [
       | inl n ↦
           let ve = c.in_ok-value.ensures.1 in
-          (w.0, holding m ts _ _ _ a _ h _ e c.if-block-eq0.false 0 _ _ _ _ _ (omega arith) (omega arith) ve n w.1)
+          (w.0, holding m ts _ _ _ a _ h _ e (c.is_string.ensures.yes c.if-not-is_string.false) 0 _ _ _ _ _ (omega arith) (omega arith) ve n w.1)
       | inr n ↦
           let ve = c.in_ok-label.ensures.1 in
-          (w.0, holding m ts _ _ _ a _ h _ e c.if-block-eq0.false 1 _ _ _ _ _ (omega arith) (omega arith) ve n w.1)
+          (w.0, holding m ts _ _ _ a _ h _ e (c.is_string.ensures.yes c.if-not-is_string.false) 1 _ _ _ _ _ (omega arith) (omega arith) ve n w.1)
     ]

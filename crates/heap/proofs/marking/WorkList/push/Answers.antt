@@ -10,7 +10,7 @@ pub returns-then-self-clause-pushed : goal.returns-then-self-clause-pushed
 returns-then-self-clause-pushed g c m ts a h =
     let read = c.in_ok-t.ensures.1 in
     let e : c.in_ok-t.t ≡ (g.S.Store.memory c.args.store.now).descriptor c.args.title = cc in
-    let z = subst (λ (x : Descriptor). bit_and x.flags 8 ≡ 0) e c.if-t-ne0.false in
+    let z = subst (λ (x : Descriptor). bit_and x.flags 8 ≡ 0) e (c.is_marked.ensures.no c.if-is_marked.false) in
     let l = room_left m ts _ _ _ a c.args.title h (unmarked m ts _ _ _ a c.args.title h z).0 in
     absurd (omega arith)
 
@@ -19,8 +19,8 @@ returns-clause-pushed g c m ts a h =
     let b = below_now m ts _ _ _ a c.args.title h in
     let read = c.in_ok-t.ensures.1 in
     let e : c.in_ok-t.t ≡ (g.S.Store.memory c.args.store.now).descriptor c.args.title = cc in
-    let z = subst (λ (x : Descriptor). bit_and x.flags 8 ≡ 0) e c.if-t-ne0.false in
-    let f = fits_mark m ts _ _ _ a c.args.title c.in_ok-t.t h e c.if-t-ne0.false in
+    let z = subst (λ (x : Descriptor). bit_and x.flags 8 ≡ 0) e (c.is_marked.ensures.no c.if-is_marked.false) in
+    let f = fits_mark m ts _ _ _ a c.args.title c.in_ok-t.t h e (c.is_marked.ensures.no c.if-is_marked.false) in
     let k = c.marked.ensures ∙ ap with_mark e in
     let s = (g.met.S.Store.sound c.args.store.now).kinds c.args.title b in
     let fl : c.marked.result.flags ≤ 31 = rw c.marked.ensures f in

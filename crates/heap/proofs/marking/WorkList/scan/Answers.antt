@@ -2,16 +2,8 @@ use Rattle.std.proofs.Common.{◌≡◌, ◌+◌, ◌-◌, refl, ◌∙◌, arit
 use Rattle.cells.proofs.Acts.{descriptor_read}
 use Rattle.arena.specs.Titles.{count}
 use Rattle.heap.proofs.Outcomes.{ok_not_err}
-use Rattle.heap.proofs.Scans.{count_now, cell_now, scanned_none, scanned_more}
+use Rattle.heap.proofs.Scans.{count_now, cell_now, scanned_more}
 use Rattle.heap.proofs.marking.WorkList.scan.Goals as goal
-
-pub loop-cell-init : goal.loop-cell-init
-loop-cell-init g c = (
-  refl,
-  λ m ts a h.
-      let e : c.args.title + 1 - (c.args.title + 1) ≡ 0 = omega arith in
-      rw e (scanned_none m ts _ _ _ a c.args.title),
-)
 
 pub returns-in_err-d-clause-scanned : goal.returns-in_err-d-clause-scanned
 returns-in_err-d-clause-scanned g c m ts a h =
