@@ -1,5 +1,5 @@
 // Texts: whether one fits, and the characters of a string in a lent buffer.
-ghost use Rattle.std.specs.Prelude.{◌≡◌, ℕ, List, Ok};
+ghost use Rattle.std.specs.Prelude.{◌≤◌, length, IfOk, IfSome, ◌≡◌, ℕ, List, Ok};
 ghost use Rattle.rules.specs.Model.{Text, Model, string};
 ghost use Rattle.rules.specs.Arena.{Arena, At, Shows};
 ghost use Rattle.arena.specs.Enters.{Takes};
@@ -38,6 +38,7 @@ pub fn read_text<S: Store>(
         ReadOut t buffer.old buffer.new result }
     ensures shown { (m : Model) (a : Arena) (t : Text) → Shows m a (S.memory store.now) → At m a (S.memory store.now) (string t) title →
         ReadOut t buffer.old buffer.new result }
+    ensures within { IfOk result (λ count. IfSome count (λ n. n ≤ length buffer.new)) }
 {
     let length = text_length(store.descriptor(title)?);
     if length as usize > buffer.len() {

@@ -1,5 +1,5 @@
 -- Lists of calls on a workspace, and the logs of what it answered.
-use Rattle.std.specs.Prelude.{◌≡◌, ℕ, List, [], ◌∷◌, map, pos, vec_items}
+use Rattle.std.specs.Prelude.{◌≡◌, ℕ, List, [], ◌∷◌, map, pos, vec_items, vec_len}
 use Rattle.rules.specs.declared.Request.{Request}
 use Rattle.rules.specs.Model.{Model}
 use Rattle.rules.specs.Arena.{Arena}
@@ -26,12 +26,12 @@ Performs v work (Call.kind r) x w = Exact v (Call.kind r) x w
 Performs v work (Call.read r n) x w = Exact v (Call.read r n) x w
 Performs v work (Call.same r s) x w = Exact v (Call.same r s) x w
 
--- An entry of a log as the rules have answers: the numbers and the characters written, or the refusal.
+-- An entry of a log as the rules have answers: the numbers and the characters written, which read counts, or the refusal.
 abbrev pub entry : Entry → Answer
 entry Done = ok [] []
 entry (Count n) = ok (pos n ∷ []) []
 entry (Pair t z) = ok (pos t ∷ z ∷ []) []
-entry (Read n characters) = ok (pos n ∷ []) (vec_items characters)
+entry (Read characters) = ok (pos (vec_len characters) ∷ []) (vec_items characters)
 entry (Refused f) = no (report f)
 
 abbrev pub entries : List Entry → List Answer

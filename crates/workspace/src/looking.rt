@@ -1,5 +1,5 @@
 // The calls that look at what a register holds: kind and read.
-ghost use Rattle.std.specs.Prelude.{◌≡◌, length, pos};
+ghost use Rattle.std.specs.Prelude.{◌≤◌, length, IfOk};
 ghost use Rattle.rules.specs.Calls.{kind as rule_kind, read as rule_read};
 ghost use Rattle.workspace.specs.Shown.{view, Exact, answered, pair, written, Leaves};
 
@@ -45,6 +45,7 @@ impl<S: Store> Workspace<S> {
     pub(crate) fn read(&self, r: u32, buffer: &mut [u8]) -> Result<u32, WorkspaceFault>
         ensures exact { Exact (view S.memory self.now) (rule_read r (length buffer.old)) (written result buffer.new) (view S.memory self.now) }
         ensures rest { Leaves (view S.memory self.now) result buffer.old buffer.new }
+        ensures within { IfOk result (λ n. n ≤ length buffer.new) }
     {
         self.admit(Word::Read, &[r])?;
         let site = Site {

@@ -13,13 +13,13 @@ use cells::Store;
 use rules::Request;
 use std::alloc::{AllocError, Global};
 
-// An entry of a log: the numbers that a call answered, for read also the characters, or its refusal.
+// An entry of a log: the numbers that a call answered, for read the characters that it counted, or its refusal.
 #[derive(Drop)]
 pub enum Entry {
     Done,
     Count(u32),
     Pair(u32, i64),
-    Read(u32, Vec<u8>),
+    Read(Vec<u8>),
     Refused(WorkspaceFault),
 }
 
@@ -75,7 +75,7 @@ impl<S: Store> Workspace<S> {
         match self.read(r, &mut buffer) {
             Ok(count) => {
                 buffer.truncate(count as usize);
-                Ok(Entry::Read(count, buffer))
+                Ok(Entry::Read(buffer))
             }
             Err(f) => Ok(Entry::Refused(f)),
         }

@@ -1,4 +1,4 @@
-use Rattle.std.proofs.Common.{[], ◌∷◌, length, pos, Ok, Err, sym, refl, ap, ◌∙◌, subst}
+use Rattle.std.proofs.Common.{[], ◌∷◌, length, pos, Ok, Err, sym, refl, ap, ◌∙◌, subst, rules}
 use Rattle.std.specs.Prelude.{ok_or}
 use Rattle.rules.specs.declared.Word.{Word}
 use Rattle.rules.specs.Calls.{Call, registers_then}
@@ -19,6 +19,7 @@ returns-in_err-admit g c =
       exact = written_refused v (Call.read c.args.r (length buffer)) count c.from_residual.result c.from_residual.result buffer f e e
           (at_door v (Call.read c.args.r (length buffer)) (c.args.r ∷ []) count c.from_residual.result f c.in_err-admit.ensures e tt refl (λ l m u h. (_, refl)));
       rest = refused_leaves v c.from_residual.result f buffer e;
+      within = search rules;
     }
 
 pub returns-in-Null : goal.returns-in-Null
@@ -31,6 +32,7 @@ returns-in-Null g c =
       exact = by_giving v v (Call.read r (length buffer)) (r ∷ []) (pos 0 ∷ []) [] ok tt refl
           (λ m a s. (m, (λ l u h. ap (registers_then (r ∷ [])) (read_null m r (length buffer) (null_in s r ok.1.0 c.in-Null.ensures.flags))), s));
       rest = opened_leaves v (Ok 0) buffer buffer ok.0 (λ m a s. refl);
+      within = search rules;
     }
 
 pub returns-in_err-count-in-Text : goal.returns-in_err-count-in-Text
@@ -46,6 +48,7 @@ returns-in_err-count-in-Text g c =
           (written c.from_residual-in_err-count-in-Text.result after) c.in_err-count-in-Text.ensures;
       rest = leaves_never v r c.in-Text.title before after c.read_text.result Word.Read r ok c.in-Text.ensures.flags c.read_text.ensures.shown f
           c.from_residual-in_err-count-in-Text.result c.in_err-count-in-Text.ensures;
+      within = search rules;
     }
 
 pub returns-in_ok-count-in-Text : goal.returns-in_ok-count-in-Text
@@ -61,6 +64,7 @@ returns-in_ok-count-in-Text g c =
           (exact_read v r c.in-Text.title before after c.read_text.result Word.Read r ok c.in-Text.ensures.flags c.read_text.ensures.shown x c.in_ok-count-in-Text.ensures);
       rest = subst (λ y. Leaves v y before after) (sym (c.ok_or.ensures.value ∙ ap (ok_or x) c.refusal.ensures))
           (leaves_read v r c.in-Text.title before after c.read_text.result Word.Read r ok c.in-Text.ensures.flags c.read_text.ensures.shown x c.in_ok-count-in-Text.ensures);
+      within = search rules;
     }
 
 pub returns-in_default : goal.returns-in_default
@@ -74,4 +78,5 @@ returns-in_default g c =
       exact = by_refusing v (Call.read r (length buffer)) (r ∷ []) count (Err c.refusal-in_default.result) f ok (ap Err c.refusal-in_default.ensures) tt refl
           (λ m a s l u h. ap (registers_then (r ∷ [])) (read_unfit s r (length buffer) ok.1.0 c.decoded.result c.decoded.ensures.flags c.in_default.not-Null c.in_default.not-Text));
       rest = refused_leaves v (Err c.refusal-in_default.result) f buffer (ap Err c.refusal-in_default.ensures);
+      within = search rules;
     }
