@@ -23,7 +23,8 @@ is_none none = 1
 tok_some : (t : Token) → is_none (tok_of t) ≡ 0
 tok_some token.Open = refl
 tok_some token.Close = refl
-tok_some (token.Number m n) = refl
+tok_some (token.Natural n) = refl
+tok_some (token.Negative n) = refl
 tok_some (token.Word w) = refl
 tok_some (token.Text w) = refl
 tok_some token.LineEnd = refl

@@ -2,8 +2,6 @@
 use Rattle.std.specs.Prelude.{◌≡◌, ℕ, ◌<◌, ◌≤◌, Bool, true, false, cond, ◌≢◌, List, [], ◌∷◌, ◌++◌, length, Some, None, Ok, Err, codes, Option, Result, OnOk}
 use Rattle.std.specs.Bool.{beq}
 use Rattle.std.specs.Str.{bytes_eq}
-use Rattle.scan.specs.declared.types.Class.{Class}
-use Rattle.scan.specs.declared.types.Class.TheVariants as class
 use Rattle.scan.specs.declared.types.Token.{Token}
 use Rattle.scan.specs.declared.types.Token.TheVariants as token
 use Rattle.scan.specs.declared.types.Placed.{Placed}
@@ -11,22 +9,16 @@ use Rattle.scan.specs.declared.types.ReaderFault.{ReaderFault}
 use Rattle.scan.specs.declared.reader.Reader.{Reader}
 use Rattle.scan.specs.declared.types.Verb.{Verb}
 use Rattle.scan.specs.declared.types.Step.{Step}
-use Rattle.scan.specs.Tokens.{Tok, opens, closes, numeral, word, text, line_end, none, Next, next, space, unparted, digit, letter_or_digit, printable}
+use Rattle.scan.specs.Tokens.{Tok, opens, closes, numeral, word, text, line_end, none, Next, next}
 use Rattle.scan.specs.Words.{bind, word_of, is_opens, is_closes, is_line_end, verb_of, is_open, kinds, Arg, nat, says, said_of}
 use Rattle.scan.specs.Forms.{Open, add, State, counting, arguing, ended, Outcome, refused, Reads, no_token_at, unfit_at}
 
 -- what the code has of these
-abbrev pub member : Class → ℕ → Bool
-member class.Space b = space b
-member class.Unparted b = unparted b
-member class.Digit b = digit b
-member class.WordByte b = letter_or_digit b
-member class.Printable b = printable b
-
 abbrev pub tok_of : Token → Tok
 tok_of token.Open = opens
 tok_of token.Close = closes
-tok_of (token.Number m n) = numeral m n
+tok_of (token.Natural n) = numeral false n
+tok_of (token.Negative n) = numeral true n
 tok_of (token.Word w) = word w.now
 tok_of (token.Text t) = text t.now
 tok_of token.LineEnd = line_end
@@ -35,6 +27,11 @@ tok_of token.LineEnd = line_end
 abbrev pub Classified : Option Token → Tok → Type 0
 Classified None t = t ≡ none
 Classified (Some k) t = tok_of k ≡ t
+
+-- the token that is found at a place, and the line, column and bytes behind it; none where no token can be read
+abbrev pub Finds : Next → Option Token → ℕ → ℕ → List ℕ → Type 0
+Finds g None l c xs = g.tok ≡ none
+Finds g (Some t) l c xs = (tok_of t ≡ g.tok) × (l ≡ g.line_after) × (c ≡ g.column_after) × (xs ≡ g.rest)
 
 -- the answer r is the token g, and the reader has gone on behind it
 pub record Took (g : Next) (p : Placed) (l c : ℕ) (xs : List ℕ) : Type 0 where
@@ -125,6 +122,9 @@ abbrev pub left : Reader → ℕ
 left r = length r.rest.now
 
 -- the same relations of readers, before and after a call
+abbrev pub FindsHere : Next → Option Token → Reader → Type 0
+FindsHere g r after = Finds g r after.line after.column after.rest.now
+
 abbrev pub TakesFrom : Next → Result Placed ReaderFault → Reader → Type 0
 TakesFrom g r after = Takes g r after.line after.column after.rest.now
 

@@ -1,0 +1,57 @@
+-- What a run of bytes is: digits, or a letter and then letters and digits.
+use Rattle.std.proofs.Common.{◌≡◌, ℕ, zero, suc, ◌+◌, ◌-◌, ◌*◌, ◌<◌, ◌≤◌, Bool, true, false, cond, ◌&&◌, ◌||◌, eqb, ltb, List, [], ◌∷◌, length, get_or, take, drop, fold, refl, ap, ◌∙◌, arith}
+use Rattle.std.specs.List.{list_all, prefix_len}
+use Rattle.std.proofs.lemmas.Bool.Decides.{nat_tests}
+use Rattle.std.proofs.lemmas.List.{take_all}
+use Rattle.std.proofs.lemmas.List.Sums.{fold_more}
+use Rattle.scan.specs.Tokens.{value, digit, digits, letter, letter_or_digit, every, wordly}
+
+all_more : (p q : Bool) (m n : ℕ) → q ≡ eqb m n → (p && q) ≡ eqb (cond p (1 + m) 0) (suc n)
+all_more true q m n e = grind (arith, nat_tests)
+all_more false q m n e = grind (arith, nat_tests)
+
+-- each byte passes just where all of them stand at the front
+pub all_every : (p : ℕ → Bool) (bs : List ℕ) → list_all p bs ≡ every p bs
+all_every p [] = refl
+all_every p (b ∷ bs) = all_more (p b) (list_all p bs) (prefix_len p bs) (length bs) (all_every p bs)
+
+and_true : (p q : Bool) → p ≡ true → q ≡ (p && q)
+and_true true q e = refl
+and_true false q e = cc
+
+pub some_digits : (xs : List ℕ) (r : Bool) → 0 < length xs → r ≡ list_all digit xs → r ≡ digits xs
+some_digits xs r h e = e ∙ all_every digit xs ∙ and_true (ltb 0 (length xs)) (every digit xs) (grind (arith, nat_tests))
+
+from_letter : (l d more : Bool) → l ≡ true → more ≡ (l && ((l || d) && more))
+from_letter true d more e = refl
+from_letter false d more e = cc
+
+-- behind a letter, letters and digits
+pub letter_wordly : (xs : List ℕ) (r : Bool) → 0 < length xs → letter (get_or xs 0 0) ≡ true → r ≡ list_all letter_or_digit (take (length xs - 1) (drop 1 xs)) → r ≡ wordly xs
+letter_wordly [] r h l e = absurd (omega arith)
+letter_wordly (b ∷ bs) r h l e =
+    e
+    ∙ ap (list_all letter_or_digit) (take_all (length (b ∷ bs) - 1) bs (omega arith))
+    ∙ from_letter (letter b) _ (list_all letter_or_digit bs) l
+    ∙ ap (λ (z : Bool). letter b && z) (all_every letter_or_digit (b ∷ bs))
+
+abbrev step : ℕ → ℕ → ℕ
+step n d = 10 * n + (d - 48)
+
+fold_grows : (n : ℕ) (ds : List ℕ) → n ≤ fold step n ds
+fold_grows n [] = omega arith
+fold_grows n (d ∷ ds) = omega (arith, fold_grows (step n d) ds)
+
+fold_front : (n i : ℕ) (ds : List ℕ) → fold step n (take i ds) ≤ fold step n ds
+fold_front n zero ds = fold_grows n ds
+fold_front n (suc i) [] = omega arith
+fold_front n (suc i) (d ∷ ds) = fold_front (step n d) i ds
+
+-- one digit more, and no fewer of them, write no smaller number
+pub value_more : (ds : List ℕ) (i : ℕ) → i < length ds → value (take (i + 1) ds) ≡ 10 * value (take i ds) + (get_or ds i 0 - 48)
+unfolding value
+value_more ds i h = fold_more step 0 ds i 0 h
+
+pub value_front : (ds : List ℕ) (i : ℕ) → value (take i ds) ≤ value ds
+unfolding value
+value_front ds i = fold_front 0 i ds
