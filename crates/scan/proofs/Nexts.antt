@@ -15,6 +15,12 @@ use Rattle.scan.specs.Forms.{no_token_at}
 pub rest_drop : (xs : List ℕ) → take (length xs - 1) (drop 1 xs) ≡ drop 1 xs
 rest_drop xs = take_all (length xs - 1) (drop 1 xs) (omega (arith, length-drop 1 xs))
 
+pub closed_text : (l c n : ℕ) (bs : List ℕ) → closed n bs ≡ true → text_next l c bs n ≡ found l c (text (take n bs)) l (c + (n + 2)) (drop (n + 1) bs)
+closed_text l c n bs h = ap (λ (t : Bool). cond t (found l c (text (take n bs)) l (c + (n + 2)) (drop (n + 1) bs)) (found l c none l c bs)) h
+
+unclosed_text : (l c n : ℕ) (bs : List ℕ) → closed n bs ≡ false → text_next l c bs n ≡ found l c none l c bs
+unclosed_text l c n bs h = ap (λ (t : Bool). cond t (found l c (text (take n bs)) l (c + (n + 2)) (drop (n + 1) bs)) (found l c none l c bs)) h
+
 module _ (l c : ℕ) where
   pub nil_next : (xs : List ℕ) → length xs < 1 → next_here l c xs ≡ found l c line_end l c xs
   unfolding next_here
@@ -50,25 +56,22 @@ module _ (l c : ℕ) where
     by_quote : next_here l c xs ≡ text_next l c (drop 1 xs) n
     by_quote = quote_next xs h e ∙ ap (text_next l c (drop 1 xs)) (sym i)
 
-    pub closed_text : closed n (drop 1 xs) ≡ true → next_here l c xs ≡ found l c (text (take n (drop 1 xs))) l (c + (n + 2)) (drop (n + 2) xs)
-    closed_text s =
-        by_quote
-        ∙ ap (λ (t : Bool). cond t (found l c (text (take n (drop 1 xs))) l (c + (n + 2)) (drop (n + 1) (drop 1 xs))) (found l c none l c (drop 1 xs))) s
-        ∙ ap (found l c (text (take n (drop 1 xs))) l (c + (n + 2))) (drop_two xs n h)
+    pub text_here : closed n (drop 1 xs) ≡ true → next_here l c xs ≡ found l c (text (take n (drop 1 xs))) l (c + (n + 2)) (drop (n + 2) xs)
+    text_here s = by_quote ∙ closed_text l c n (drop 1 xs) s ∙ ap (found l c (text (take n (drop 1 xs))) l (c + (n + 2))) (drop_two xs n h)
 
-    pub unclosed_text : closed n (drop 1 xs) ≡ false → next_here l c xs ≡ found l c none l c (drop 1 xs)
-    unclosed_text s =
-        by_quote
-        ∙ ap (λ (t : Bool). cond t (found l c (text (take n (drop 1 xs))) l (c + (n + 2)) (drop (n + 1) (drop 1 xs))) (found l c none l c (drop 1 xs))) s
+    pub no_text_here : closed n (drop 1 xs) ≡ false → next_here l c xs ≡ found l c none l c (drop 1 xs)
+    no_text_here s = by_quote ∙ unclosed_text l c n (drop 1 xs) s
 
-  by_tests : (x : ℕ) (xs : List ℕ) → eqb x 10 ≡ false → eqb x 40 ≡ false → eqb x 41 ≡ false → eqb x 34 ≡ false → next_here l c (x ∷ xs) ≡ run_next l c (x ∷ xs) (prefix_len unparted (x ∷ xs))
+  pub run_next_lem : (xs : List ℕ) (b : ℕ) (bs : List ℕ) → xs ≡ b ∷ bs → eqb b 10 ≡ false → eqb b 40 ≡ false → eqb b 41 ≡ false → eqb b 34 ≡ false → next_here l c xs ≡ run_next l c xs (prefix_len unparted xs)
   unfolding next_here
-  by_tests x xs h i j k =
-      (λ t. cond (h t) (found l c line_end (l + 1) 1 xs) (cond (i t) (found l c opens l (c + 1) xs) (cond (j t) (found l c closes l (c + 1) xs) (cond (k t) (text_next l c xs (prefix_len printable xs)) (run_next l c (x ∷ xs) (prefix_len unparted (x ∷ xs)))))))
+  run_next_lem xs b bs e h i j k =
+      ap (next_here l c) e
+      ∙ (λ t. cond (h t) (found l c line_end (l + 1) 1 bs) (cond (i t) (found l c opens l (c + 1) bs) (cond (j t) (found l c closes l (c + 1) bs) (cond (k t) (text_next l c bs (prefix_len printable bs)) (run_next l c (b ∷ bs) (prefix_len unparted (b ∷ bs)))))))
+      ∙ ap (λ (zs : List ℕ). run_next l c zs (prefix_len unparted zs)) (sym e)
 
-  pub other_next : (xs : List ℕ) (n : ℕ) → 1 ≤ length xs → get_or xs 0 0 ≢ 10 → get_or xs 0 0 ≢ 40 → get_or xs 0 0 ≢ 41 → get_or xs 0 0 ≢ 34 → n ≡ prefix_len unparted xs → next_here l c xs ≡ run_next l c xs n
-  other_next [] n h _ _ _ _ e = absurd (omega arith)
-  other_next (x ∷ xs) n h i j k m e = by_tests x xs (ne_eqb x 10 i) (ne_eqb x 40 j) (ne_eqb x 41 k) (ne_eqb x 34 m) ∙ ap (run_next l c (x ∷ xs)) (sym e)
+  pub run_here : (xs : List ℕ) (n : ℕ) → 1 ≤ length xs → get_or xs 0 0 ≢ 10 → get_or xs 0 0 ≢ 40 → get_or xs 0 0 ≢ 41 → get_or xs 0 0 ≢ 34 → n ≡ prefix_len unparted xs → next_here l c xs ≡ run_next l c xs n
+  run_here [] n h _ _ _ _ e = absurd (omega arith)
+  run_here (x ∷ xs) n h i j k m e = run_next_lem (x ∷ xs) x xs refl (ne_eqb x 10 i) (ne_eqb x 40 j) (ne_eqb x 41 k) (ne_eqb x 34 m) ∙ ap (run_next l c (x ∷ xs)) (sym e)
 
   pub run_found : (xs : List ℕ) (n : ℕ) (part : List ℕ) (o : Option Token) (m d : ℕ) (ys : List ℕ) → Classified o (run_token part) → part ≡ take n xs → m ≡ l → d ≡ c + n → ys ≡ drop n xs → Finds (run_next l c xs n) o m d ys
   run_found xs n part None m d ys k p a b e = ap run_token (sym p) ∙ k

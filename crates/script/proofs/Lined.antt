@@ -9,7 +9,7 @@ use Rattle.scan.specs.Forms.{bottom, State, first, start, opened, over, Outcome,
 use Rattle.scan.specs.Taking.{some, outside_of, line_end_of, PicksFrom, Misses, ahead, left}
 use Rattle.script.specs.Plans.{Kept, Holds, ReadsAt, LeadsAt, Formed, Lined, Behind}
 use Rattle.script.specs.Scripts.{Whole, Comes, too_many_steps, stopped, steps, Steps, Refusal}
-use Rattle.scan.proofs.Lists.{empty_list}
+use Rattle.std.proofs.lemmas.List.{nil_from_length}
 use Rattle.scan.proofs.Steps.{moved, fits_outside, fits_line_end}
 use Rattle.script.proofs.Onward.{on_by, stops_by}
 
@@ -91,7 +91,7 @@ module _ (script : List ℕ) (short : length script ≤ 16384) (X : Reader) (el 
 
   whole : left Y ≡ 0 → Whole script (done f.said)
   whole e =
-      let z : Y.rest.now ≡ [] = empty_list Y.rest.now (omega arith) in
+      let z : Y.rest.now ≡ [] = nil_from_length Y.rest.now (omega arith) in
       from_start (done f.said) (subst (λ (w : List ℕ). Reads (start (bottom f.said)) Y.line Y.column w (done f.said)) (sym z) finished)
 
   pub read_over : left Y ≡ 0 → q.over ≡ true → Refusal script fault.TooLong
