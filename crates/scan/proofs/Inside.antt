@@ -8,15 +8,15 @@ use Rattle.scan.proofs.Shorter.{next_shorter}
 
 inside_eats : (o c : Bool) (l k : ℕ) (xs : List ℕ) (b : Bool) (m d : ℕ) (ys : List ℕ) → Picks (inside_of o c) (next l k xs) (Ok b) m d ys → b ≡ true → length ys < length xs
 unfolding next next_here
-inside_eats o c l k [] b m d ys p e = let n : None ≡ Some b = p.0 in let z : ◌≡◌ {A = ℕ} 0 1 = cc in absurd (omega arith)
+inside_eats o c l k [] b m d ys p e = let n : None ≡ Some b = p.0 in cc
 inside_eats o c l k (x ∷ xs) b m d ys p e = omega (arith, ap length p.3, next_shorter l k (x ∷ xs) (omega arith))
 
 may_by : (o c p q : Bool) (b : Bool) → cond p (cond o (Some true) None) (cond q (cond c (Some false) None) None) ≡ Some b → b ≡ true → o ≡ true
 may_by true c p q b h e = refl
-may_by false c true q b h e = let z : ◌≡◌ {A = ℕ} 0 1 = cc in absurd (omega arith)
-may_by false true false true b h e = let z : ◌≡◌ {A = ℕ} 0 1 = cc in absurd (omega arith)
-may_by false false false true b h e = let z : ◌≡◌ {A = ℕ} 0 1 = cc in absurd (omega arith)
-may_by false c false false b h e = let z : ◌≡◌ {A = ℕ} 0 1 = cc in absurd (omega arith)
+may_by false c true q b h e = cc
+may_by false true false true b h e = cc
+may_by false false false true b h e = cc
+may_by false c false false b h e = cc
 
 inside_may : (o c : Bool) (t : Tok) (b : Bool) → inside_of o c t ≡ Some b → b ≡ true → o ≡ true
 inside_may o c t b h e = may_by o c (is_opens t) (is_closes t) b h e

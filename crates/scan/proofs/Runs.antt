@@ -47,11 +47,11 @@ fold_front n zero ds = fold_grows n ds
 fold_front n (suc i) [] = omega arith
 fold_front n (suc i) (d ∷ ds) = fold_front (step n d) i ds
 
--- one digit more, and no fewer of them, write no smaller number
+-- one digit more, and no number of fewer of them is larger
 pub value_more : (ds : List ℕ) (i : ℕ) → i < length ds → value (take (i + 1) ds) ≡ 10 * value (take i ds) + (get_or ds i 0 - 48)
 unfolding value
 value_more ds i h = fold_more step 0 ds i 0 h
 
-pub value_front : (ds : List ℕ) (i : ℕ) → value (take i ds) ≤ value ds
+pub value_reached : (ds : List ℕ) (i : ℕ) → i < length ds → 10 * value (take i ds) + (get_or ds i 0 - 48) ≤ value ds
 unfolding value
-value_front ds i = fold_front 0 i ds
+value_reached ds i h = omega (arith, fold_more step 0 ds i 0 h, fold_front 0 (i + 1) ds)

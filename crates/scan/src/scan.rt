@@ -65,9 +65,9 @@ fn classify<'a>(run: &'a [u8]) -> Option<Token<'a>>
     ensures { Classified result (run_token run.now) }
 {
     match run {
-        [b'-', digits @ ..] => Some(Token::Negative(number(digits, 2147483648)?)),
+        [b'-', digits @ ..] => Some(Token::Negative(number(digits, i32::MIN.unsigned_abs())?)),
         _ if is_word(run) => Some(Token::Word(run)),
-        _ => Some(Token::Natural(number(run, 2147483647)?)),
+        _ => Some(Token::Natural(number(run, i32::MAX.unsigned_abs())?)),
     }
 }
 

@@ -1,7 +1,7 @@
 // What a token may be taken for: words, arguments, brackets and the end of a line.
 ghost use Rattle.std.specs.Prelude.{◌≡◌};
 ghost use Rattle.scan.specs.Words.{verb_of, layout_of, natural_of, signed_of, word_of, text_of, bind};
-ghost use Rattle.scan.specs.Taking.{tok_of, closes_of, head_word, head_of, inside_of, outside_of, line_end_of};
+ghost use Rattle.scan.specs.Taking.{tok_of, closes_of, head_of, inside_of, outside_of, line_end_of};
 ghost use Rattle.std.specs.Option.{option_map};
 
 use crate::types::{Layout, Token, Verb};
@@ -82,23 +82,15 @@ pub(crate) fn close_of<'a>(t: Token<'a>) -> Option<()>
 }
 
 // What stands behind a form's bracket: a call's word, or none for `times`.
-fn head_word(word: &[u8], first: bool) -> Option<Option<Verb>>
-    ensures { result ≡ head_word first word.now }
-{
-    match word {
-        b"times" => if first { None } else { Some(None) },
-        _ => match verb(word) {
-            Some(v) if first == matches!(v, Verb::Open) => Some(Some(v)),
-            _ => None,
-        },
-    }
-}
-
 pub(crate) fn head_of<'a>(t: Token<'a>, first: bool) -> Option<Option<Verb>>
     ensures { result ≡ head_of first (tok_of t.entry) }
 {
     match t {
-        Token::Word(word) => head_word(word, first),
+        Token::Word(b"times") => if first { None } else { Some(None) },
+        Token::Word(word) => match verb(word) {
+            Some(v) if first == matches!(v, Verb::Open) => Some(Some(v)),
+            _ => None,
+        },
         _ => None,
     }
 }
