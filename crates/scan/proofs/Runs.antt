@@ -1,6 +1,14 @@
 -- What a run of bytes is: digits, or a letter and then letters and digits.
-use Rattle.std.proofs.Common.{◌≡◌, ℕ, zero, suc, ◌+◌, ◌-◌, ◌*◌, ◌<◌, ◌≤◌, Bool, true, false, cond, ◌&&◌, ◌||◌, eqb, ltb, List, [], ◌∷◌, length, get_or, take, drop, fold, refl, ap, ◌∙◌, arith}
+use Rattle.std.proofs.Common.{◌≡◌, ℕ, zero, suc, ◌+◌, ◌-◌, ◌*◌, ◌<◌, ◌≤◌, Bool, true, false, cond, ◌&&◌, ◌||◌, eqb, ltb, List, [], ◌∷◌, Option, Bor, length, get_or, take, drop, fold, refl, ap, ◌∙◌, arith}
 use Rattle.std.specs.List.{list_all, prefix_len}
+use Rattle.std.specs.Fn.{Mut, CalledAt}
+use Rattle.std.specs.Iterator.{Drains}
+use Rattle.std.specs.Iterator.Adapters.{take_while_source, take_while_callee, take_while_done, take_while_steps}
+use Rattle.std.specs.declared.iter.TakeWhile.{TakeWhile}
+use Rattle.std.proofs.lemmas.Iterator.{YieldsList}
+use Rattle.std.proofs.lemmas.Iterator.Consumers.{count_from_yields_List}
+use Rattle.std.proofs.lemmas.Iterator.Search.{YieldsList-from_take_while}
+use Rattle.std.proofs.lemmas.List.Folds.{length-prefix_len}
 use Rattle.std.proofs.lemmas.Bool.Decides.{nat_tests}
 use Rattle.std.proofs.lemmas.List.{take_all}
 use Rattle.std.proofs.lemmas.List.Sums.{fold_more}
@@ -34,6 +42,11 @@ letter_wordly (b ∷ bs) r h l e =
     ∙ ap (list_all letter_or_digit) (take_all (length (b ∷ bs) - 1) bs (omega arith))
     ∙ from_letter (letter b) _ (list_all letter_or_digit bs) l
     ∙ ap (λ (z : Bool). letter b && z) (all_every letter_or_digit (b ∷ bs))
+
+-- how many bytes `take_while(..).count()` finds at the front
+module _ {S A F : Type 0} {steps : S → Option A → S → Type 0} {v : A → ℕ} {s : TakeWhile S F} {g : Mut F (Bor A × Unit {0}) Bool} {f : F} {r : ℕ} {xs : List ℕ} where
+  pub front_len : (test : ℕ → Bool) → (ys : List A) × Drains (take_while_steps steps g) s ys × (r ≡ length ys) → YieldsList steps v (take_while_source s) xs → take_while_callee s ≡ f → take_while_done s ≡ false → ((x : A) (b : Bool) (q : F) → CalledAt g f x b q → (q ≡ f) × (b ≡ test (v x))) → r ≡ prefix_len test xs
+  front_len test ran gives callee done calls = count_from_yields_List s r ran (YieldsList-from_take_while g test gives callee done calls) ∙ length-prefix_len test xs
 
 abbrev step : ℕ → ℕ → ℕ
 step n d = 10 * n + (d - 48)

@@ -1,10 +1,8 @@
 use Rattle.std.proofs.Common.{◌≡◌, ◌-◌, true, false, length, take, drop, refl, sym, ap, ◌∙◌, rules, tests}
 use Rattle.std.specs.List.{prefix_len}
 use Rattle.std.proofs.lemmas.Iterator.{YieldsList-from_slice}
-use Rattle.std.proofs.lemmas.Iterator.Consumers.{count_from_yields_List}
-use Rattle.std.proofs.lemmas.Iterator.Search.{YieldsList-from_take_while}
-use Rattle.std.proofs.lemmas.List.Folds.{length-prefix_len}
 use Rattle.scan.specs.Tokens.{Next, printable, unparted, closed, text}
+use Rattle.scan.proofs.Runs.{front_len}
 use Rattle.scan.proofs.Nexts.{rest_drop, nil_next, line_next, open_next, close_next, text_here, no_text_here, run_here, run_found}
 use Rattle.scan.proofs.reader.Reader.token_here.Goals as goal
 
@@ -30,7 +28,7 @@ pub returns-then-is_closed : goal.returns-then-is_closed
 returns-then-is_closed c =
     let xs = c.args.self.now.rest.now in
     let bs = take (length xs - 1) (drop 1 xs) in
-    let n : c.count-n.result ≡ prefix_len printable bs = count_from_yields_List c.take_while.result _ c.count-n.ensures.ran (YieldsList-from_take_while _ printable (YieldsList-from_slice bs cc) c.take_while.ensures.closure c.take_while.ensures.done (λ x b q k. search (rules, tests))) ∙ length-prefix_len printable bs in
+    let n : c.count-n.result ≡ prefix_len printable bs = front_len printable c.count-n.ensures.ran (YieldsList-from_slice bs cc) c.take_while.ensures.closure c.take_while.ensures.done (λ x b q k. search (rules, tests)) in
     let e = c.split_text.ensures in
     let shut : closed c.count-n.result (drop 1 xs) ≡ true = ap (closed c.count-n.result) (sym (rest_drop xs)) ∙ sym c.is_closed.ensures ∙ c.if-is_closed.true in
     rw (text_here c.args.self.now.line c.args.self.now.column xs c.count-n.result (search rules) (search rules) (n ∙ ap (prefix_len printable) (rest_drop xs)) shut)
@@ -40,14 +38,14 @@ pub returns-else-is_closed : goal.returns-else-is_closed
 returns-else-is_closed c =
     let xs = c.args.self.now.rest.now in
     let bs = take (length xs - 1) (drop 1 xs) in
-    let n : c.count-n.result ≡ prefix_len printable bs = count_from_yields_List c.take_while.result _ c.count-n.ensures.ran (YieldsList-from_take_while _ printable (YieldsList-from_slice bs cc) c.take_while.ensures.closure c.take_while.ensures.done (λ x b q k. search (rules, tests))) ∙ length-prefix_len printable bs in
+    let n : c.count-n.result ≡ prefix_len printable bs = front_len printable c.count-n.ensures.ran (YieldsList-from_slice bs cc) c.take_while.ensures.closure c.take_while.ensures.done (λ x b q k. search (rules, tests)) in
     let open' : closed c.count-n.result (drop 1 xs) ≡ false = ap (closed c.count-n.result) (sym (rest_drop xs)) ∙ sym c.is_closed.ensures ∙ c.if-is_closed.false in
     ap (λ (g : Next). g.tok) (no_text_here c.args.self.now.line c.args.self.now.column xs c.count-n.result (search rules) (search rules) (n ∙ ap (prefix_len printable) (rest_drop xs)) open')
 
 pub returns-in_default : goal.returns-in_default
 returns-in_default c =
     let xs = c.args.self.now.rest.now in
-    let n : c.count-n-in_default.result ≡ prefix_len unparted xs = count_from_yields_List c.take_while-in_default.result _ c.count-n-in_default.ensures.ran (YieldsList-from_take_while _ unparted (YieldsList-from_slice xs cc) c.take_while-in_default.ensures.closure c.take_while-in_default.ensures.done (λ x b q k. search (rules, tests))) ∙ length-prefix_len unparted xs in
+    let n : c.count-n-in_default.result ≡ prefix_len unparted xs = front_len unparted c.count-n-in_default.ensures.ran (YieldsList-from_slice xs cc) c.take_while-in_default.ensures.closure c.take_while-in_default.ensures.done (λ x b q k. search (rules, tests)) in
     let e = c.split_off-in_default.ensures in
     rw (run_here c.args.self.now.line c.args.self.now.column xs c.count-n-in_default.result (search rules) (search rules) (search rules) (search rules) (search rules) n)
     (run_found c.args.self.now.line c.args.self.now.column xs c.count-n-in_default.result c.split_off-in_default.result.now c.classify.result _ _ _ c.classify.ensures e.part e.line e.column e.rest)
