@@ -78,28 +78,25 @@ module _ (l c : ℕ) where
   run_found xs n part (Some t) m d ys k p a b e = (k ∙ ap run_token p, a, b, e)
 
   -- it begins here
-  at_place : Next → Type 0
+  abbrev at_place : Next → Type 0
   at_place g = (g.line ≡ l) × (g.column ≡ c)
 
   text_place : (n : ℕ) (bs : List ℕ) → at_place (text_next l c bs n)
-  unfolding at_place
-  text_place n bs = cond_both (closed n bs) (found l c (text (take n bs)) l (c + (n + 2)) (drop (n + 1) bs)) (found l c none l c bs) (λ g. at_place g) (λ _. (refl, refl)) (λ _. (refl, refl))
+  text_place n bs = cond_both (closed n bs) (found l c (text (take n bs)) l (c + (n + 2)) (drop (n + 1) bs)) (found l c none l c bs) at_place (λ _. (refl, refl)) (λ _. (refl, refl))
 
   here_place : (xs : List ℕ) → at_place (next_here l c xs)
-  unfolding at_place next_here
+  unfolding next_here
   here_place [] = (refl, refl)
   here_place (b ∷ bs) =
-      let P : Next → Type 0 = λ g. (g.line ≡ l) × (g.column ≡ c) in
       let four = cond (eqb b 34) (text_next l c bs (prefix_len printable bs)) (run_next l c (b ∷ bs) (prefix_len unparted (b ∷ bs))) in
       let three = cond (eqb b 41) (found l c closes l (c + 1) bs) four in
       let two = cond (eqb b 40) (found l c opens l (c + 1) bs) three in
-      cond_both (eqb b 10) (found l c line_end (l + 1) 1 bs) two P (λ _. (refl, refl))
-      (λ _. cond_both (eqb b 40) (found l c opens l (c + 1) bs) three P (λ _. (refl, refl))
-      (λ _. cond_both (eqb b 41) (found l c closes l (c + 1) bs) four P (λ _. (refl, refl))
-      (λ _. cond_both (eqb b 34) (text_next l c bs (prefix_len printable bs)) (run_next l c (b ∷ bs) (prefix_len unparted (b ∷ bs))) P (λ _. text_place (prefix_len printable bs) bs) (λ _. (refl, refl)))))
+      cond_both (eqb b 10) (found l c line_end (l + 1) 1 bs) two at_place (λ _. (refl, refl))
+      (λ _. cond_both (eqb b 40) (found l c opens l (c + 1) bs) three at_place (λ _. (refl, refl))
+      (λ _. cond_both (eqb b 41) (found l c closes l (c + 1) bs) four at_place (λ _. (refl, refl))
+      (λ _. cond_both (eqb b 34) (text_next l c bs (prefix_len printable bs)) (run_next l c (b ∷ bs) (prefix_len unparted (b ∷ bs))) at_place (λ _. text_place (prefix_len printable bs) bs) (λ _. (refl, refl)))))
 
   pub took_some : (xs : List ℕ) (m d : ℕ) (ys : List ℕ) (o : Option Token) (f : ReaderFault) (t : Token) → Finds (next_here l c xs) o m d ys → ok_or o f ≡ Ok t → Took (next_here l c xs) (record { at = record { line = l; column = c }; token = t }) m d ys
-  unfolding at_place
   took_some xs m d ys None f t h e = cc
   took_some xs m d ys (Some u) f t h e =
       let p = here_place xs in
@@ -107,7 +104,6 @@ module _ (l c : ℕ) where
       record { line = sym p.0; column = sym p.1; tok = ap tok_of same ∙ h.0; line_after = h.1; column_after = h.2; rest = h.3 }
 
   pub took_none : (xs : List ℕ) (m d : ℕ) (ys : List ℕ) (o : Option Token) (e : ReaderFault) → Finds (next_here l c xs) o m d ys → ok_or o (fault.NoToken (record { line = l; column = c })) ≡ Err e → (e ≡ no_token_at (next_here l c xs)) × ((next_here l c xs).tok ≡ none)
-  unfolding at_place
   took_none xs m d ys None e h k =
       let p = here_place xs in
       let same : e ≡ fault.NoToken (record { line = l; column = c }) = cc in

@@ -36,17 +36,17 @@ fn value_of(digits: &[u8]) -> Option<u32>
 fn are_digits(bytes: &[u8]) -> bool
     ensures { result ≡ digits bytes.now }
 {
-    !bytes.is_empty() && bytes.iter().all(|b| b.is_ascii_digit())
+    !bytes.is_empty() && bytes.iter().all(u8::is_ascii_digit)
 }
 
 fn is_word(bytes: &[u8]) -> bool
     ensures { result ≡ wordly bytes.now }
 {
     match bytes {
-        [] => false,
         [first, rest @ ..] => {
-            first.is_ascii_alphabetic() && rest.iter().all(|b| b.is_ascii_alphanumeric())
+            first.is_ascii_alphabetic() && rest.iter().all(u8::is_ascii_alphanumeric)
         }
+        [] => false,
     }
 }
 

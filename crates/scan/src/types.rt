@@ -11,7 +11,7 @@ pub struct Spot {
     pub column: u32,
 }
 
-// One token. A number below zero is there without its minus; a word and a text are parts of the script.
+// One token. `Negative` is a number behind a minus; a word and a text are parts of the script.
 #[derive(Clone, Copy)]
 pub enum Token<'a> {
     Open,
