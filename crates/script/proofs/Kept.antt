@@ -1,36 +1,118 @@
--- What a plan holds after a push and after a repetition.
-use Rattle.std.proofs.Common.{◌≡◌, ℕ, zero, suc, ◌+◌, ◌-◌, ◌<◌, ◌≤◌, Bool, true, false, ◌⊎◌, List, [], ◌∷◌, ◌++◌, map, length, take, drop, sym, refl, ap, ◌∙◌, subst, inl, inr, ⊎_elim, append_assoc, append-nil, arith, length-append, length-drop}
+-- What a plan holds after further steps, and after a repetition.
+use Rattle.std.proofs.Common.{◌≡◌, ℕ, zero, suc, ◌+◌, ◌-◌, ◌<◌, ◌≤◌, Bool, true, false, cond, leb, ◌⊎◌, List, [], ◌∷◌, ◌++◌, map, length, take, drop, IfSome, Some, None, Option, sym, refl, ap, ◌∙◌, inl, inr, ⊎_elim, subst, append_assoc, append-nil, arith, length-append, length-drop, length-take-le}
 use mathlib.Core.List.{map-append}
-use Rattle.std.proofs.lemmas.List.{length-map, drop-map, drop-append-le}
+use Rattle.std.proofs.lemmas.Bool.{cases_lt, le-leb, lt-leb, leb-true, leb-false, cond-true, cond-false}
+use Rattle.std.proofs.lemmas.List.{length-map, take-map, drop-map, drop-append-le, take_all}
 use Rattle.scan.specs.declared.types.Step.{Step}
-use Rattle.scan.specs.Words.{Said, said_of}
-use Rattle.scan.specs.Forms.{copies}
-use Rattle.script.specs.Plans.{Kept}
+use Rattle.scan.specs.Words.{bind, Said, said_of}
+use Rattle.scan.specs.Forms.{bottom, first, copies}
+use Rattle.scan.specs.Taking.{some}
+use Rattle.script.specs.Plans.{limited, with_more, nothing, size, part}
 
-pub push_over : (b : Bool) (items : List Step) (full : List Said) (s : Said) → 4096 ≤ length items → Kept b items full → 4096 < length (full ++ s ∷ [])
-push_over false items full s h k = omega (arith, length-append full (s ∷ []), length-map items said_of, ap length k.0)
-push_over true items full s h k = omega (arith, length-append full (s ∷ []))
+limited_few : (ss : List Said) → length ss ≤ 4096 → limited ss ≡ Some ss
+limited_few ss h = cond-true (leb (length ss) 4096) (Some ss) None (le-leb (length ss) 4096 h)
 
-pub push_kept : (b : Bool) (items : List Step) (full : List Said) (s : Step) → length items < 4096 → Kept b items full → Kept b (items ++ s ∷ []) (full ++ said_of s ∷ [])
-push_kept false items full s h k = (map-append said_of items (s ∷ []) ∙ ap (λ (z : List Said). z ++ said_of s ∷ []) k.0, omega (arith, length-append full (said_of s ∷ []), length-map items said_of, ap length k.0))
-push_kept true items full s h k = omega (arith, length-append full (said_of s ∷ []))
+limited_many : (ss : List Said) → 4096 < length ss → limited ss ≡ None
+limited_many ss h = cond-false (leb (length ss) 4096) (Some ss) None (lt-leb (length ss) 4096 h)
 
-pub copies_more : {A : Type 0} (n : ℕ) (xs : List A) → copies n xs ++ xs ≡ copies (suc n) xs
+-- from the answer to the limit
+over_cond : (b : Bool) (ss : List Said) → cond b (Some ss) None ≡ None → b ≡ false
+over_cond true ss e = absurd cc
+over_cond false ss e = refl
+
+pub limited_over : (ss : List Said) → limited ss ≡ None → 4096 < length ss
+limited_over ss e = leb-false (length ss) 4096 (over_cond (leb (length ss) 4096) ss e)
+
+within_by : (b : Bool) (ss ts : List Said) → cond b (Some ss) None ≡ Some ts → (b ≡ true) × (ts ≡ ss)
+within_by true ss ts e = (refl, cc)
+within_by false ss ts e = absurd cc
+
+pub limited_same : (ss ts : List Said) → limited ss ≡ Some ts → ts ≡ ss
+limited_same ss ts e = (within_by (leb (length ss) 4096) ss ts e).1
+
+pub limited_within : (ss ts : List Said) → limited ss ≡ Some ts → length ss ≤ 4096
+limited_within ss ts e = leb-true (length ss) 4096 (within_by (leb (length ss) 4096) ss ts e).0
+
+limited_more : (ss more : List Said) → bind (limited ss) (λ z. limited (z ++ more)) ≡ limited (ss ++ more)
+limited_more ss more =
+    let add = λ (o : Option (List Said)). bind o (λ z. limited (z ++ more)) in
+    ⊎_elim (λ many. ap add (limited_many ss many) ∙ sym (limited_many (ss ++ more) (omega (arith, length-append ss more)))) (λ few. ap add (limited_few ss few)) (cases_lt 4096 (length ss))
+
+none_more : (more : List Said) → with_more None more ≡ None
+none_more [] = refl
+none_more (s ∷ more) = refl
+
+pub more_more : (h : Option (List Said)) (a b : List Said) → with_more (with_more h a) b ≡ with_more h (a ++ b)
+more_more h [] b = refl
+more_more h (s ∷ a) [] = ap (with_more h) (sym (append-nil (s ∷ a)))
+more_more None (s ∷ a) (t ∷ b) = refl
+more_more (Some ss) (s ∷ a) (t ∷ b) = limited_more (ss ++ s ∷ a) (t ∷ b) ∙ ap limited (append_assoc ss (s ∷ a) (t ∷ b))
+
+pub holds_more : (h : Option (List Said)) (said more : List Said) → h ≡ limited said → with_more h more ≡ limited (said ++ more)
+holds_more h said [] e = e ∙ ap limited (sym (append-nil said))
+holds_more h said (s ∷ more) e = ap (λ (o : Option (List Said)). bind o (λ ss. limited (ss ++ s ∷ more))) e ∙ limited_more said (s ∷ more)
+
+-- whether there are steps
+nothing_cond : (b : Bool) (ss : List Said) → some ss ≡ true → nothing (cond b (Some ss) None) ≡ false
+nothing_cond true [] e = absurd cc
+nothing_cond true (s ∷ ss) e = refl
+nothing_cond false ss e = refl
+
+pub first_by : (said : List Said) → nothing (limited said) ≡ first (bottom said)
+first_by [] = refl
+first_by (s ∷ d) = nothing_cond (leb (length (s ∷ d)) 4096) (s ∷ d) refl
+
+some_append : (ss more : List Said) → some more ≡ true → some (ss ++ more) ≡ true
+some_append [] more e = e
+some_append (s ∷ ss) more e = refl
+
+pub nothing_more : (h : Option (List Said)) (more : List Said) → some more ≡ true → nothing (with_more h more) ≡ false
+nothing_more h [] e = absurd cc
+nothing_more None (s ∷ more) e = refl
+nothing_more (Some ss) (s ∷ more) e = nothing_cond (leb (length (ss ++ s ∷ more)) 4096) (ss ++ s ∷ more) (some_append ss (s ∷ more) refl)
+
+-- as the code adds steps
+room_held : (items more : List Step) → length items + length more ≤ 4096 → Some (map said_of (items ++ more)) ≡ with_more (Some (map said_of items)) (map said_of more)
+room_held items [] h = ap (λ (z : List Step). Some (map said_of z)) (append-nil items)
+room_held items (s ∷ more) h =
+    let few : length (map said_of items ++ map said_of (s ∷ more)) ≤ 4096 = omega (arith, length-append (map said_of items) (map said_of (s ∷ more)), length-map items said_of, length-map (s ∷ more) said_of) in
+    ap (λ (z : List Said). Some z) (map-append said_of items (s ∷ more)) ∙ sym (limited_few (map said_of items ++ map said_of (s ∷ more)) few)
+
+full_held : (items : List Step) (more : List Said) → 0 < length more → 4096 < length items + length more → None ≡ with_more (Some (map said_of items)) more
+full_held items [] some h = absurd (omega arith)
+full_held items (s ∷ more) some h = sym (limited_many (map said_of items ++ s ∷ more) (omega (arith, length-append (map said_of items) (s ∷ more), length-map items said_of)))
+
+part_map : (items : List Step) (from to : ℕ) → map said_of (take (to - from) (drop from items)) ≡ part from to (Some (map said_of items))
+part_map items from to = sym (ap (take (to - from)) (drop-map said_of from items) ∙ take-map said_of (to - from) (drop from items))
+
+module _ (h : Option (List Said)) (items : List Step) (from to : ℕ) (is : h ≡ Some (map said_of items)) (w : IfSome h (λ ss. (from < to) × (to ≤ length ss))) where
+  within_items : (from < to) × (to ≤ length items)
+  within_items = let v = subst (λ (o : Option (List Said)). IfSome o (λ ss. (from < to) × (to ≤ length ss))) is w in (v.0, omega (arith, v.1, length-map items said_of))
+
+  part_long : length (take (to - from) (drop from items)) ≡ to - from
+  part_long = let v = within_items in length-take-le (to - from) (drop from items) (omega (arith, v.1, length-drop from items))
+
+  -- with room for the part
+  pub held_added : length items + (to - from) ≤ 4096 → Some (map said_of (items ++ take (to - from) (drop from items))) ≡ with_more h (part from to h)
+  held_added room =
+      room_held items (take (to - from) (drop from items)) (omega (arith, part_long))
+      ∙ ap (with_more (Some (map said_of items))) (part_map items from to)
+      ∙ sym (ap (λ (o : Option (List Said)). with_more o (part from to o)) is)
+
+  -- without
+  pub held_full : 4096 < length items + (to - from) → None ≡ with_more h (part from to h)
+  held_full many =
+      let v = within_items in
+      let long : length (part from to (Some (map said_of items))) ≡ to - from = ap length (sym (part_map items from to)) ∙ length-map (take (to - from) (drop from items)) said_of ∙ part_long in
+      full_held items (part from to (Some (map said_of items))) (omega (arith, v.0)) (omega arith)
+      ∙ sym (ap (λ (o : Option (List Said)). with_more o (part from to o)) is)
+
+pub held_none : (h : Option (List Said)) (from to : ℕ) → h ≡ None → None ≡ with_more h (part from to h)
+held_none h from to e = sym (ap (λ (o : Option (List Said)). with_more o (part from to o)) e)
+
+copies_more : {A : Type 0} (n : ℕ) (xs : List A) → copies n xs ++ xs ≡ copies (suc n) xs
 copies_more zero xs = sym (append-nil xs)
 copies_more (suc n) xs = append_assoc xs (copies n xs) xs ∙ ap (λ z. xs ++ z) (copies_more n xs)
-
-map_copies : {A B : Type 0} (f : A → B) (n : ℕ) (xs : List A) → map f (copies n xs) ≡ copies n (map f xs)
-map_copies f zero xs = refl
-map_copies f (suc n) xs = map-append f xs (copies n xs) ∙ ap (λ z. map f xs ++ z) (map_copies f n xs)
-
-pub copies_mono : {A : Type 0} (n m : ℕ) (xs : List A) → n ≤ m → length (copies n xs) ≤ length (copies m xs)
-copies_mono zero m xs h = omega arith
-copies_mono (suc n) zero xs h = absurd (omega arith)
-copies_mono (suc n) (suc m) xs h = omega (arith, length-append xs (copies n xs), length-append xs (copies m xs), copies_mono n m xs (omega arith))
-
-drop_front : (xs ys : List Said) → drop (length xs) (xs ++ ys) ≡ ys
-drop_front [] ys = refl
-drop_front (x ∷ xs) ys = drop_front xs ys
 
 take_front : {A : Type 0} (n : ℕ) (xs ys : List A) → n ≡ length xs → take n (xs ++ ys) ≡ xs
 take_front zero [] ys e = refl
@@ -38,42 +120,76 @@ take_front zero (x ∷ xs) ys e = absurd (omega arith)
 take_front (suc n) [] ys e = absurd (omega arith)
 take_front (suc n) (x ∷ xs) ys e = ap (λ z. x ∷ z) (take_front n xs ys (omega arith))
 
--- the part that is repeated
-pub part_of : {A : Type 0} (base more : List A) (from to : ℕ) → from ≤ to → to ≡ length base → take (to - from) (drop from (base ++ more)) ≡ drop from base
-part_of base more from to h e = ap (take (to - from)) (drop-append-le from base more (omega arith)) ∙ take_front (to - from) (drop from base) more (omega (arith, length-drop from base))
+part_of : (ss more : List Said) (from : ℕ) → from ≤ length ss → part from (length ss) (Some (ss ++ more)) ≡ drop from ss
+part_of ss more from h = ap (take (length ss - from)) (drop-append-le from ss more h) ∙ take_front (length ss - from) (drop from ss) more (omega (arith, length-drop from ss))
 
-said_repeated : (items : List Step) (full ss : List Said) (from n : ℕ) → map said_of items ≡ full ++ ss → from ≡ length full → map said_of (items ++ copies n (drop from items)) ≡ full ++ copies (suc n) ss
-said_repeated items full ss from n e f =
-    let part : map said_of (drop from items) ≡ ss = sym (drop-map said_of from items) ∙ ap (drop from) e ∙ ap (λ (z : ℕ). drop z (full ++ ss)) f ∙ drop_front full ss in
-    map-append said_of items (copies n (drop from items))
-    ∙ ap (λ (z : List Said). map said_of items ++ z) (map_copies said_of n (drop from items) ∙ ap (copies n) part)
-    ∙ ap (λ (z : List Said). z ++ copies n ss) e
-    ∙ append_assoc full ss (copies n ss)
+-- what is added once more stands in what was there at first
+part_cond : (b : Bool) (ss more : List Said) (from : ℕ) → from ≤ length ss → (cond b (Some (ss ++ more)) None ≡ None) ⊎ (part from (length ss) (cond b (Some (ss ++ more)) None) ≡ drop from ss)
+part_cond true ss more from h = inr (part_of ss more from h)
+part_cond false ss more from h = inl refl
 
-pub repeat_over : (b : Bool) (items : List Step) (full ss : List Said) (from n : ℕ) → (b ≡ true) ⊎ (length items < from) → Kept b items (full ++ ss) → (4096 < length full) ⊎ (from ≡ length full) → 1 ≤ n → Kept b items (full ++ copies n ss)
-repeat_over true items full ss from n why h at low = omega (arith, length-append full ss, length-append full (copies n ss), copies_mono 1 n ss low, length-append ss [])
-repeat_over false items full ss from n (inl z) h at low = let y : ◌≡◌ {A = ℕ} 0 1 = cc in absurd (omega arith)
-repeat_over false items full ss from n (inr z) h (inl large) low = absurd (omega (arith, length-append full ss))
-repeat_over false items full ss from n (inr z) h (inr at) low = absurd (omega (arith, length-append full ss, length-map items said_of, ap length h.0))
+part_more : (h : Option (List Said)) (more : List Said) (from : ℕ) → IfSome h (λ ss. from < length ss) → (with_more h more ≡ None) ⊎ (part from (size h) (with_more h more) ≡ part from (size h) h)
+part_more None more from w = inl (none_more more)
+part_more (Some ss) [] from w = inr refl
+part_more (Some ss) (s ∷ more) from w =
+    let same : part from (length ss) (Some ss) ≡ drop from ss = take_all (length ss - from) (drop from ss) (omega (arith, length-drop from ss)) in
+    ⊎_elim (λ e. inl e) (λ e. inr (e ∙ sym same)) (part_cond (leb (length (ss ++ s ∷ more)) 4096) ss (s ∷ more) from (omega arith))
 
--- after so many further copies
-module _ (b b' : Bool) (items now' : List Step) (full ss : List Said) (from turn n : ℕ) (not_over : b ≡ false) (is : now' ≡ items ++ copies turn (drop from items)) (kept : Kept b items (full ++ ss)) (at : (4096 < length full) ⊎ (from ≡ length full)) where
-  said : (map said_of now' ≡ full ++ copies (suc turn) ss) × (length (full ++ ss) ≤ 4096) × (from ≡ length full)
-  said =
-      let k : Kept false items (full ++ ss) = subst (λ (z : Bool). Kept z items (full ++ ss)) not_over kept in
-      let f : from ≡ length full = ⊎_elim (λ large. absurd (omega (arith, length-append full ss, k.1))) (λ z. z) at in
-      (ap (map said_of) is ∙ said_repeated items full ss from turn k.0 f, k.1, f)
+pub added : (h : Option (List Said)) (from n : ℕ) → IfSome h (λ ss. from < length ss) →
+    with_more (with_more h (copies n (part from (size h) h))) (part from (size h) (with_more h (copies n (part from (size h) h)))) ≡ with_more h (copies (suc n) (part from (size h) h))
+added h from n w =
+    let once = part from (size h) h in
+    let all : with_more (with_more h (copies n once)) once ≡ with_more h (copies (suc n) once) = more_more h (copies n once) once ∙ ap (with_more h) (copies_more n once) in
+    ⊎_elim
+    (λ e. ap (λ (o : Option (List Said)). with_more o (part from (size h) o)) e ∙ sym (ap (λ (o : Option (List Said)). with_more o once) e ∙ none_more once) ∙ all)
+    (λ e. ap (with_more (with_more h (copies n once))) e ∙ all)
+    (part_more h (copies n once) from w)
 
-  -- as often as was wanted
-  pub repeat_kept : b' ≡ false → suc turn ≡ n → length now' ≤ 4096 → Kept b' now' (full ++ copies n ss)
-  repeat_kept e t short =
-      let s = said in
-      let m : map said_of now' ≡ full ++ copies n ss = s.0 ∙ ap (λ (z : ℕ). full ++ copies z ss) t in
-      subst (λ (z : Bool). Kept z now' (full ++ copies n ss)) (sym e) (m, omega (arith, ap length m, length-map now' said_of))
+within_cond : (b : Bool) (ss more : List Said) (from : ℕ) → from < length ss → IfSome (cond b (Some (ss ++ more)) None) (λ z. (from < length ss) × (length ss ≤ length z))
+within_cond true ss more from h = (h, omega (arith, length-append ss more))
+within_cond false ss more from h = tt
 
-  -- too many
-  pub repeat_long : suc turn < n → 4096 < length now' + (length items - from) → 4096 < length (full ++ copies n ss)
-  repeat_long less long =
-      let s = said in
-      let k : Kept false items (full ++ ss) = subst (λ (z : Bool). Kept z items (full ++ ss)) not_over kept in
-      omega (arith, ap length s.0, length-map now' said_of, length-append full (copies (suc turn) ss), length-append full (copies n ss), copies_mono (suc (suc turn)) n ss (omega arith), length-append ss (copies (suc turn) ss), length-append full ss, ap length k.0, length-map items said_of, s.2)
+pub added_within : (h : Option (List Said)) (more : List Said) (from : ℕ) → IfSome h (λ ss. from < length ss) → IfSome (with_more h more) (λ z. (from < size h) × (size h ≤ length z))
+added_within None [] from w = tt
+added_within None (s ∷ more) from w = tt
+added_within (Some ss) [] from w = (w, omega arith)
+added_within (Some ss) (s ∷ more) from w = within_cond (leb (length (ss ++ s ∷ more)) 4096) ss (s ∷ more) from w
+
+-- a repetition of what was added
+drop_front : (ss more : List Said) → drop (length ss) (ss ++ more) ≡ more
+drop_front [] more = refl
+drop_front (s ∷ ss) more = drop_front ss more
+
+part_end : (ss more : List Said) → part (length ss) (length (ss ++ more)) (Some (ss ++ more)) ≡ more
+part_end ss more = ap (take (length (ss ++ more) - length ss)) (drop_front ss more) ∙ take_all (length (ss ++ more) - length ss) more (omega (arith, length-append ss more))
+
+end_cond : (b : Bool) (ss more : List Said) → (cond b (Some (ss ++ more)) None ≡ None) ⊎ (part (length ss) (size (cond b (Some (ss ++ more)) None)) (cond b (Some (ss ++ more)) None) ≡ more)
+end_cond true ss more = inr (part_end ss more)
+end_cond false ss more = inl refl
+
+part_behind : (h : Option (List Said)) (more : List Said) → some more ≡ true → (with_more h more ≡ None) ⊎ (part (size h) (size (with_more h more)) (with_more h more) ≡ more)
+part_behind h [] e = absurd cc
+part_behind None (s ∷ more) e = inl refl
+part_behind (Some ss) (s ∷ more) e = end_cond (leb (length (ss ++ s ∷ more)) 4096) ss (s ∷ more)
+
+pub repeated : (h : Option (List Said)) (more : List Said) (n : ℕ) → some more ≡ true → 1 ≤ n →
+    with_more (with_more h more) (copies (n - 1) (part (size h) (size (with_more h more)) (with_more h more))) ≡ with_more h (copies n more)
+repeated h more zero any low = absurd (omega arith)
+repeated h more (suc n) any low =
+    let same : suc n - 1 ≡ n = omega arith in
+    let all : with_more (with_more h more) (copies n more) ≡ with_more h (copies (suc n) more) = more_more h more (copies n more) in
+    ap (λ (m : ℕ). with_more (with_more h more) (copies m (part (size h) (size (with_more h more)) (with_more h more)))) same
+    ∙ ⊎_elim
+    (λ e. ap (λ (o : Option (List Said)). with_more o (copies n (part (size h) (size o) o))) e ∙ none_more (copies n []) ∙ sym (ap (λ (o : Option (List Said)). with_more o (copies n more)) e ∙ none_more (copies n more)) ∙ all)
+    (λ e. ap (λ (z : List Said). with_more (with_more h more) (copies n z)) e ∙ all)
+    (part_behind h more any)
+
+behind_cond : (b : Bool) (ss more : List Said) → some more ≡ true → IfSome (cond b (Some (ss ++ more)) None) (λ z. length ss < length z)
+behind_cond true ss [] e = absurd cc
+behind_cond true ss (s ∷ more) e = omega (arith, length-append ss (s ∷ more))
+behind_cond false ss more e = tt
+
+pub repeated_within : (h : Option (List Said)) (more : List Said) → some more ≡ true → IfSome (with_more h more) (λ z. size h < length z)
+repeated_within h [] e = absurd cc
+repeated_within None (s ∷ more) e = tt
+repeated_within (Some ss) (s ∷ more) e = behind_cond (leb (length (ss ++ s ∷ more)) 4096) ss (s ∷ more) refl
