@@ -1,40 +1,24 @@
 -- From a token that was taken to what it is taken for.
-use Rattle.std.proofs.Common.{◌≡◌, ℕ, ◌≢◌, IfOk, Some, None, Ok, Err, Option, Result, sym, refl, ap, ◌∙◌, subst, arith}
+use Rattle.std.proofs.Common.{◌≡◌, ◌≢◌, Some, None, Ok, Err, Option, Result, sym, ap, ◌∙◌, subst}
 use Rattle.std.specs.Option.{ok_or}
 use Rattle.scan.specs.declared.types.Token.{Token}
 use Rattle.scan.specs.declared.types.Token.TheVariants as token
 use Rattle.scan.specs.declared.types.Placed.{Placed}
 use Rattle.scan.specs.declared.types.ReaderFault.{ReaderFault}
 use Rattle.scan.specs.declared.types.ReaderFault.TheVariants as fault
-use Rattle.scan.specs.Tokens.{Tok, opens, closes, numeral, word, text, line_end, none, Next}
+use Rattle.scan.specs.Tokens.{Tok, none, Next}
 use Rattle.scan.specs.Forms.{no_token_at, unfit_at}
 use Rattle.scan.specs.declared.reader.Reader.{Reader}
 use Rattle.scan.specs.Taking.{TakesFrom, tok_of, Picks, PicksBy, PicksFrom, Misses, misread, mistaken}
 
 -- a token of the code is always a token
-abbrev is_none : Tok → ℕ
-is_none opens = 0
-is_none closes = 0
-is_none (numeral m n) = 0
-is_none (word w) = 0
-is_none (text t) = 0
-is_none line_end = 0
-is_none none = 1
-
-tok_some : (t : Token) → is_none (tok_of t) ≡ 0
-tok_some token.Open = refl
-tok_some token.Close = refl
-tok_some (token.Number m n) = refl
-tok_some (token.Word w) = refl
-tok_some (token.Text w) = refl
-tok_some token.LineEnd = refl
-
-pub tok_not_none : (t : Token) → tok_of t ≢ none
-tok_not_none t e = let z : ◌≡◌ {A = ℕ} 0 1 = sym (tok_some t) ∙ ap is_none e in absurd (omega arith)
-
-pub made_any : {A : Type 0} (r : Result A ReaderFault) (P : Type 0) → P → IfOk r (λ _. P)
-made_any (Ok a) P h = h
-made_any (Err f) P h = tt
+tok_not_none : (t : Token) → tok_of t ≢ none
+tok_not_none token.Open e = cc
+tok_not_none token.Close e = cc
+tok_not_none (token.Number m n) e = cc
+tok_not_none (token.Word w) e = cc
+tok_not_none (token.Text w) e = cc
+tok_not_none token.LineEnd e = cc
 
 module _ {A : Type 0} (answers : Token → Option A → Type 0) (g : Next) (after : Reader) where
   missed : (p : Placed) → tok_of p.token ≡ g.tok → p.at.line ≡ g.line → p.at.column ≡ g.column → answers p.token None → Misses (λ t o. (k : Token) × (tok_of k ≡ t) × answers k o) g (fault.Unfit p.at)
