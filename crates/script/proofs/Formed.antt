@@ -12,7 +12,7 @@ use Rattle.scan.specs.Tokens.{Tok, numeral, opens, closes, word, text, line_end,
 use Rattle.scan.specs.Words.{Said, said_of, verb_of, word_of, is_open, natural_of, within, is_opens, is_closes, bind}
 use Rattle.scan.specs.Forms.{copies, Open, times, depth, first, add, start, opened, counting, ended}
 use Rattle.scan.specs.Taking.{said_step, some, head_of, head_word, headed, inside_of, PicksFrom, ahead, left, LeadsAt, GoesOn}
-use Rattle.script.specs.Plans.{held, with_more, nothing, size, part, fresh, Pushes, Repeats, Formed, ReadsForm, Filled}
+use Rattle.script.specs.Plans.{with_more, nothing, size, part, fresh, Pushes, Repeats, Formed, ReadsForm, Filled}
 use Rattle.scan.proofs.Steps.{fits_head, fits_count, fits_inside, goes_on}
 use Rattle.script.proofs.Kept.{more_more, nothing_more, repeated}
 use Rattle.script.proofs.Onward.{leads_to}
@@ -92,8 +92,8 @@ module _ (inner : ℕ) (empty : Bool) (E F : Expander) (f : Filled inner empty E
     steps = f.steps ++ g.steps;
     any = some_append f.steps g.steps g.any;
     leads = λ count k h o x. f.leads count k h o (inside_to count f.steps k inner empty h f.any F.reader b true Z picks z o (g.leads (times count f.steps k) (omega arith) (sym f.later) o x));
-    grows = g.grows ∙ ap (λ (w : Option (List Said)). with_more w g.steps) f.grows ∙ more_more (held E.plan) f.steps g.steps;
-    later = ap nothing g.grows ∙ nothing_more (held F.plan) g.steps g.any;
+    grows = g.grows ∙ ap (λ (w : Option (List Said)). with_more w g.steps) f.grows ∙ more_more E.plan f.steps g.steps;
+    later = ap nothing g.grows ∙ nothing_more F.plan g.steps g.any;
     shorter = omega (arith, f.shorter);
   }
 
@@ -118,12 +118,12 @@ times_begun k b e X h Y p z n Z q o r = head_to k b e X h None Y p z o (count_on
 -- a `times` whose closing bracket has been read
 pub times_formed : (res : Result (Unit {0}) ReaderFault) (inner count : ℕ) (E F G : Expander) (ss : List Said) →
     ((k : Open) → depth k + inner ≡ 15 → first k ≡ fresh E → LeadsAt (opened k) E.reader (ended (add (copies count ss) k)) G.reader) →
-    held F.plan ≡ with_more (held E.plan) ss → some ss ≡ true → 1 ≤ count → Repeats res F.plan G.plan (size (held E.plan)) count → ReadsForm res inner E G
+    F.plan ≡ with_more E.plan ss → some ss ≡ true → 1 ≤ count → Repeats res F.plan G.plan (size E.plan) count → ReadsForm res inner E G
 times_formed (Ok u) inner count E F G ss on grows any low rep = record {
   steps = copies count ss;
   any = some_copies count ss low any;
   leads = on;
-  grows = rep ∙ ap (λ (h : Option (List Said)). with_more h (copies (count - 1) (part (size (held E.plan)) (size h) h))) grows ∙ repeated (held E.plan) ss count any low;
+  grows = rep ∙ ap (λ (h : Option (List Said)). with_more h (copies (count - 1) (part (size E.plan) (size h) h))) grows ∙ repeated E.plan ss count any low;
 }
 times_formed (Err f) inner count E F G ss on grows any low rep = λ n. absurd (n rep)
 

@@ -8,7 +8,7 @@ use Rattle.script.specs.declared.forms.Expander.{Expander}
 use Rattle.scan.specs.Words.{Said, said_of}
 use Rattle.scan.specs.Forms.{bottom, State, first, start, opened, over, Outcome, done, refused, Reads, finished, goes, unread, unfit}
 use Rattle.scan.specs.Taking.{outside_of, line_end_of, PicksFrom, ahead, left, ReadsAt, LeadsAt, GoesOn}
-use Rattle.script.specs.Plans.{held, limited, nothing, fresh, Formed, Lined, Behind}
+use Rattle.script.specs.Plans.{limited, nothing, fresh, Formed, Lined, Behind}
 use Rattle.script.specs.Scripts.{Whole, Comes, too_many_steps, stopped, steps, Steps, Refusal}
 use Rattle.scan.proofs.Lists.{empty_list}
 use Rattle.scan.proofs.Steps.{fits_outside, fits_line_end, goes_on}
@@ -43,7 +43,7 @@ lined_form E b Y picks z F f W ends = record {
 }
 
 -- before the first line
-pub behind_none : (script : List ℕ) (E : Expander) → ((o : Outcome) → ReadsAt (start (bottom [])) E.reader o → Whole script o) → held E.plan ≡ Some [] → Behind script E
+pub behind_none : (script : List ℕ) (E : Expander) → ((o : Outcome) → ReadsAt (start (bottom [])) E.reader o → Whole script o) → E.plan ≡ Some [] → Behind script E
 behind_none script E on e = record { said = []; leads = on; holds = e }
 
 behind_first : (script : List ℕ) (E : Expander) (f : Behind script E) → first (bottom f.said) ≡ fresh E
@@ -54,7 +54,7 @@ pub behind_more : (script : List ℕ) (E F : Expander) → Behind script E → L
 behind_more script E F f g = record {
   said = f.said ++ g.steps;
   leads = λ o x. f.leads o (g.leads f.said (behind_first script E f) o x);
-  holds = g.grows ∙ holds_more (held E.plan) f.said g.steps f.holds;
+  holds = g.grows ∙ holds_more E.plan f.said g.steps f.holds;
 }
 
 never_long : {s : State} {l c : ℕ} {xs : List ℕ} {o : Outcome} → Reads s l c xs o → o ≡ refused fault.TooLong → ⊥

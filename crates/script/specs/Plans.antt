@@ -1,17 +1,15 @@
 -- The flat list of steps, and what forms and lines add to it.
-use Rattle.std.specs.Prelude.{◌≡◌, ℕ, ◌+◌, ◌-◌, ◌≤◌, Bool, true, false, cond, not, ◌≢◌, List, [], ◌∷◌, ◌++◌, map, length, take, drop, Some, None, Ok, Err, vec_items, option_map, Option, Result, nat_le}
+use Rattle.std.specs.Prelude.{◌≡◌, ℕ, ◌+◌, ◌-◌, ◌≤◌, Bool, true, false, cond, not, ◌≢◌, List, [], ◌∷◌, ◌++◌, length, take, drop, Some, None, Ok, Err, Option, Result, nat_le}
 use Rattle.scan.specs.declared.types.ReaderFault.{ReaderFault}
 use Rattle.scan.specs.declared.types.ReaderFault.TheVariants as fault
 use Rattle.script.specs.declared.plan.Plan.{Plan}
 use Rattle.script.specs.declared.forms.Expander.{Expander}
-use Rattle.scan.specs.Words.{bind, Said, said_of}
+use Rattle.scan.specs.Words.{bind, Said}
 use Rattle.scan.specs.Forms.{copies, Open, bottom, times, depth, first, add, start, opened, ended, Outcome, refused}
 use Rattle.script.specs.Scripts.{Whole}
 use Rattle.scan.specs.Taking.{some, left, ReadsAt, LeadsAt}
 
--- what a plan holds; none where there were too many steps
-abbrev pub held : Plan → Option (List Said)
-held p = option_map (λ v. map said_of (vec_items v)) p.steps
+-- A plan is seen as what its steps say; none where there were too many.
 
 -- at most 4,096 steps
 abbrev pub limited : List Said → Option (List Said)
@@ -37,26 +35,26 @@ part from to (Some ss) = take (to - from) (drop from ss)
 
 -- the plan holds further steps, or memory was wanting
 abbrev pub Pushes : Result (Unit {0}) ReaderFault → Plan → Plan → List Said → Type 0
-Pushes (Ok u) p q more = held q ≡ with_more (held p) more
+Pushes (Ok u) p q more = q ≡ with_more p more
 Pushes (Err f) p q more = f ≡ fault.Memory
 
 abbrev pub Adds : Result (Unit {0}) ReaderFault → Plan → Plan → ℕ → ℕ → Type 0
-Adds r p q from to = Pushes r p q (part from to (held p))
+Adds r p q from to = Pushes r p q (part from to p)
 
 -- the steps from a place on, so many times
 abbrev pub Repeats : Result (Unit {0}) ReaderFault → Plan → Plan → ℕ → ℕ → Type 0
-Repeats r p q from n = Pushes r p q (copies (n - 1) (part from (size (held p)) (held p)))
+Repeats r p q from n = Pushes r p q (copies (n - 1) (part from (size p) p))
 
 -- no form has been read
 abbrev pub fresh : Expander → Bool
-fresh E = nothing (held E.plan)
+fresh E = nothing E.plan
 
 -- a form whose bracket has been read, with so many brackets that may stand inside
 pub record Formed (inner : ℕ) (E F : Expander) : Type 0 where
   pub steps : List Said
   pub any : some steps ≡ true
   pub leads : (k : Open) → depth k + inner ≡ 15 → first k ≡ fresh E → LeadsAt (opened k) E.reader (ended (add steps k)) F.reader
-  pub grows : held F.plan ≡ with_more (held E.plan) steps
+  pub grows : F.plan ≡ with_more E.plan steps
 
 abbrev pub ReadsForm : Result (Unit {0}) ReaderFault → ℕ → Expander → Expander → Type 0
 ReadsForm (Ok u) inner E F = Formed inner E F
@@ -67,7 +65,7 @@ pub record Filled (inner : ℕ) (empty : Bool) (E F : Expander) : Type 0 where
   pub steps : List Said
   pub any : some steps ≡ not empty
   pub leads : (n : ℕ) (k : Open) → depth k + inner ≡ 15 → LeadsAt (start (times n [] k)) E.reader (start (times n steps k)) F.reader
-  pub grows : held F.plan ≡ with_more (held E.plan) steps
+  pub grows : F.plan ≡ with_more E.plan steps
   pub later : fresh F ≡ false
   pub shorter : left F.reader ≤ left E.reader
 
@@ -75,7 +73,7 @@ pub record Filled (inner : ℕ) (empty : Bool) (E F : Expander) : Type 0 where
 pub record Lined (E F : Expander) : Type 0 where
   pub steps : List Said
   pub leads : (said : List Said) → first (bottom said) ≡ fresh E → LeadsAt (start (bottom said)) E.reader (start (bottom (said ++ steps))) F.reader
-  pub grows : held F.plan ≡ with_more (held E.plan) steps
+  pub grows : F.plan ≡ with_more E.plan steps
 
 abbrev pub ReadsLine : Result (Unit {0}) ReaderFault → Expander → Expander → Type 0
 ReadsLine (Ok u) E F = Lined E F
@@ -85,4 +83,4 @@ ReadsLine (Err f) E F = f ≢ fault.Memory → (said : List Said) → first (bot
 pub record Behind (script : List ℕ) (E : Expander) : Type 0 where
   pub said : List Said
   pub leads : (o : Outcome) → ReadsAt (start (bottom said)) E.reader o → Whole script o
-  pub holds : held E.plan ≡ limited said
+  pub holds : E.plan ≡ limited said

@@ -76,5 +76,5 @@ pub fn read<'a>(heap: Global, script: &'a [u8]) -> Result<Vec<Step<'a>>, ReaderF
     while !expander.reader.is_done() {
         expander.line()?;
     }
-    expander.plan.steps.ok_or(ReaderFault::TooLong)
+    expander.plan.into_steps().ok_or(ReaderFault::TooLong)
 }

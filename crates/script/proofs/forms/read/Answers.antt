@@ -1,4 +1,4 @@
-use Rattle.std.proofs.Common.{length, vec_items, sym, arith}
+use Rattle.std.proofs.Common.{length, vec_items, sym, ◌∙◌, arith}
 use Rattle.std.proofs.lemmas.Bool.{eqb-true}
 use Rattle.std.proofs.lemmas.Result.{err_from_is_err_and}
 use Rattle.script.specs.Scripts.{too_many_bytes}
@@ -27,7 +27,7 @@ pub returns-in_err-line-clause-back : goal.returns-in_err-line-clause-back
 returns-in_err-line-clause-back c fs law e = read_back c.args.script.now fs law e vec_items c.from_residual.result (returns-in_err-line-clause-exact c)
 
 pub returns-clause-exact : goal.returns-clause-exact
-returns-clause-exact c = read_done c.args.script.now (omega arith) c.loop-expander.expander c.loop-expander.invariant vec_items c.loop-expander.expander.plan.steps c.ok_or.result (eqb-true (length c.loop-expander.expander.reader.rest.now) 0 (sym c.loop-expander-test.ensures)) c.loop-expander.invariant.holds c.ok_or.ensures.value
+returns-clause-exact c = read_done c.args.script.now (omega arith) c.loop-expander.expander c.loop-expander.invariant vec_items c.into_steps.result c.ok_or.result (eqb-true (length c.loop-expander.expander.reader.rest.now) 0 (sym c.loop-expander-test.ensures)) (c.into_steps.ensures ∙ c.loop-expander.invariant.holds) c.ok_or.ensures.value
 
 pub returns-clause-one : goal.returns-clause-one
 returns-clause-one c = exactly_one c.args.script.now

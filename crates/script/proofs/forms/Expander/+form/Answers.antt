@@ -2,7 +2,7 @@ use Rattle.std.proofs.Common.{ℕ, ◌<◌, true, None, Err, sym, ◌∙◌, sub
 use Rattle.std.proofs.lemmas.Result.{err_from_is_err_and}
 use Rattle.std.proofs.lemmas.Bool.{ltb-true}
 use Rattle.scan.specs.Forms.{times}
-use Rattle.script.specs.Plans.{held, Repeats}
+use Rattle.script.specs.Plans.{Repeats}
 use Rattle.script.proofs.Kept.{repeated_within}
 use Rattle.script.proofs.Formed.{head_on, head_to, head_later, inside_on, inside_to, filled_none, filled_more, filled_end, filled_any, times_begun, count_on, count_low, times_formed, call_formed}
 use Rattle.script.proofs.forms.Expander.+form.Goals as goal
@@ -38,7 +38,7 @@ loop-self-preserved t c =
 pub repeat-requires : goal.repeat-requires
 repeat-requires t c =
     let any = filled_any c.args.inner c.loop-self.empty (record { reader = c.natural.new.self; plan = c.args.self.now.plan }) c.loop-self.self c.loop-self.invariant c.in_ok-inside.field-0 c.inside.new.self c.in_ok-inside.ensures.picks c.if-branch.false in
-    rw (c.len-start.ensures, c.loop-self.invariant.grows) (repeated_within (held c.args.self.now.plan) c.loop-self.invariant.steps any)
+    rw (c.len-start.ensures, c.loop-self.invariant.grows) (repeated_within c.args.self.now.plan c.loop-self.invariant.steps any)
 
 pub returns-in_default-clause-forms : goal.returns-in_default-clause-forms
 returns-in_default-clause-forms t c =
