@@ -14,7 +14,7 @@ use Rattle.scan.specs.Forms.{copies, Open, times, depth, first, add, start, open
 use Rattle.scan.specs.Taking.{said_step, some, head_of, head_word, headed, inside_of, PicksFrom, ahead, left, LeadsAt, GoesOn}
 use Rattle.script.specs.Plans.{with_more, nothing, size, part, fresh, Pushes, Repeats, Formed, ReadsForm, Filled}
 use Rattle.scan.proofs.Steps.{fits_head, fits_count, fits_inside, goes_on}
-use Rattle.script.proofs.Kept.{more_more, nothing_more, repeated}
+use Rattle.script.proofs.Kept.{more_more, nothing_more, repeated, some_append}
 use Rattle.script.proofs.Onward.{leads_to}
 
 depth_test : (a b : ℕ) → a + b ≡ 15 → ltb (1 + a) 16 ≡ ltb 0 b
@@ -51,10 +51,6 @@ module _ (n : ℕ) (ss : List Said) (k : Open) (inner : ℕ) (empty : Bool) (dee
 
   pub inside_to : (b c : Bool) (Y : Reader) → PicksFrom (inside_of (ltb 0 inner) (not empty)) (ahead X) (Ok b) Y → b ≡ c → LeadsAt (start (times n ss k)) X (cond c (opened (times n ss k)) (ended (add (copies n ss) k))) Y
   inside_to b c Y p z = leads_to (start (times n ss k)) (inside_of (ltb 0 inner) (not empty)) (λ b. cond b (opened (times n ss k)) (ended (add (copies n ss) k))) (fits_inside n ss k (ltb 0 inner) (not empty) (depth_test (depth k) inner deep) any) X b c Y p z
-
-some_append : (xs ys : List Said) → some ys ≡ true → some (xs ++ ys) ≡ true
-some_append [] ys h = h
-some_append (x ∷ xs) ys h = refl
 
 some_copies : (n : ℕ) (ss : List Said) → 1 ≤ n → some ss ≡ true → some (copies n ss) ≡ true
 some_copies zero ss h e = absurd (omega arith)
@@ -123,7 +119,7 @@ times_formed (Ok u) inner count E F G ss on grows any low rep = record {
   steps = copies count ss;
   any = some_copies count ss low any;
   leads = on;
-  grows = rep ∙ ap (λ (h : Option (List Said)). with_more h (copies (count - 1) (part (size E.plan) (size h) h))) grows ∙ repeated E.plan ss count any low;
+  grows = rep ∙ ap (λ (h : Option (List Said)). with_more h (copies (count - 1) (part (size E.plan) (size h) h))) grows ∙ repeated E.plan ss count low;
 }
 times_formed (Err f) inner count E F G ss on grows any low rep = λ n. absurd (n rep)
 

@@ -1,8 +1,8 @@
 -- What a plan holds after further steps, and after a repetition.
-use Rattle.std.proofs.Common.{◌≡◌, ℕ, zero, suc, ◌+◌, ◌-◌, ◌<◌, ◌≤◌, Bool, true, false, cond, leb, ◌⊎◌, List, [], ◌∷◌, ◌++◌, map, length, take, drop, IfSome, Some, None, Option, sym, refl, ap, ◌∙◌, inl, inr, ⊎_elim, subst, append_assoc, append-nil, arith, length-append, length-drop, length-take-le}
+use Rattle.std.proofs.Common.{◌≡◌, ℕ, zero, suc, ◌+◌, ◌-◌, ◌<◌, ◌≤◌, true, false, not, leb, ◌⊎◌, List, [], ◌∷◌, ◌++◌, map, length, take, drop, IfSome, Some, None, Option, MatchOption, sym, refl, ap, ◌∙◌, inl, inr, ⊎_elim, subst, append_assoc, append-nil, arith, length-append, length-drop, length-take-le}
 use mathlib.Core.List.{map-append}
-use Rattle.std.proofs.lemmas.Bool.{cases_lt, le-leb, lt-leb, leb-true, leb-false, cond-true, cond-false}
-use Rattle.std.proofs.lemmas.List.{length-map, take-map, drop-map, drop-append-le, take_all}
+use Rattle.std.proofs.lemmas.Bool.{cases_lt, le-leb, lt-leb, leb-true, leb-false, cond-true, cond-false, cond_both}
+use Rattle.std.proofs.lemmas.List.{length-map, take-map, drop-map, drop-append-le, take-append-le, take_all}
 use Rattle.scan.specs.declared.types.Step.{Step}
 use Rattle.scan.specs.Words.{bind, Said, said_of}
 use Rattle.scan.specs.Forms.{bottom, first, copies}
@@ -16,27 +16,23 @@ limited_many : (ss : List Said) → 4096 < length ss → limited ss ≡ None
 limited_many ss h = cond-false (leb (length ss) 4096) (Some ss) None (lt-leb (length ss) 4096 h)
 
 -- from the answer to the limit
-over_cond : (b : Bool) (ss : List Said) → cond b (Some ss) None ≡ None → b ≡ false
-over_cond true ss e = absurd cc
-over_cond false ss e = refl
-
-pub limited_over : (ss : List Said) → limited ss ≡ None → 4096 < length ss
-limited_over ss e = leb-false (length ss) 4096 (over_cond (leb (length ss) 4096) ss e)
-
-within_by : (b : Bool) (ss ts : List Said) → cond b (Some ss) None ≡ Some ts → (b ≡ true) × (ts ≡ ss)
-within_by true ss ts e = (refl, cc)
-within_by false ss ts e = absurd cc
-
-pub limited_same : (ss ts : List Said) → limited ss ≡ Some ts → ts ≡ ss
-limited_same ss ts e = (within_by (leb (length ss) 4096) ss ts e).1
-
-pub limited_within : (ss ts : List Said) → limited ss ≡ Some ts → length ss ≤ 4096
-limited_within ss ts e = leb-true (length ss) 4096 (within_by (leb (length ss) 4096) ss ts e).0
+pub limited_by : (ss : List Said) (o : Option (List Said)) → limited ss ≡ o → MatchOption o (4096 < length ss) (λ ts. (ts ≡ ss) × (length ss ≤ 4096))
+limited_by ss o e =
+    let P : Option (List Said) → Type 0 = λ o. MatchOption o (4096 < length ss) (λ ts. (ts ≡ ss) × (length ss ≤ 4096)) in
+    subst P e (cond_both (leb (length ss) 4096) (Some ss) None P (λ t. (refl, leb-true (length ss) 4096 t)) (λ f. leb-false (length ss) 4096 f))
 
 limited_more : (ss more : List Said) → bind (limited ss) (λ z. limited (z ++ more)) ≡ limited (ss ++ more)
 limited_more ss more =
     let add = λ (o : Option (List Said)). bind o (λ z. limited (z ++ more)) in
     ⊎_elim (λ many. ap add (limited_many ss many) ∙ sym (limited_many (ss ++ more) (omega (arith, length-append ss more)))) (λ few. ap add (limited_few ss few)) (cases_lt 4096 (length ss))
+
+-- further steps are too many, or stand behind those before
+more_cases : (h : Option (List Said)) (more : List Said) → (with_more h more ≡ None) ⊎ ((ss : List Said) × (h ≡ Some ss) × (with_more h more ≡ Some (ss ++ more)))
+more_cases None [] = inl refl
+more_cases None (s ∷ more) = inl refl
+more_cases (Some ss) [] = inr (ss, refl, ap (λ (z : List Said). Some z) (sym (append-nil ss)))
+more_cases (Some ss) (s ∷ more) =
+    cond_both (leb (length (ss ++ s ∷ more)) 4096) (Some (ss ++ s ∷ more)) None (λ o. (o ≡ None) ⊎ ((ts : List Said) × (Some ss ≡ Some ts) × (o ≡ Some (ts ++ s ∷ more)))) (λ _. inr (ss, refl, refl)) (λ _. inl refl)
 
 none_more : (more : List Said) → with_more None more ≡ None
 none_more [] = refl
@@ -53,23 +49,16 @@ holds_more h said [] e = e ∙ ap limited (sym (append-nil said))
 holds_more h said (s ∷ more) e = ap (λ (o : Option (List Said)). bind o (λ ss. limited (ss ++ s ∷ more))) e ∙ limited_more said (s ∷ more)
 
 -- whether there are steps
-nothing_cond : (b : Bool) (ss : List Said) → some ss ≡ true → nothing (cond b (Some ss) None) ≡ false
-nothing_cond true [] e = absurd cc
-nothing_cond true (s ∷ ss) e = refl
-nothing_cond false ss e = refl
-
 pub first_by : (said : List Said) → nothing (limited said) ≡ first (bottom said)
 first_by [] = refl
-first_by (s ∷ d) = nothing_cond (leb (length (s ∷ d)) 4096) (s ∷ d) refl
+first_by (s ∷ d) = cond_both (leb (length (s ∷ d)) 4096) (Some (s ∷ d)) None (λ o. nothing o ≡ first (bottom (s ∷ d))) (λ _. refl) (λ _. refl)
 
-some_append : (ss more : List Said) → some more ≡ true → some (ss ++ more) ≡ true
+pub some_append : (ss more : List Said) → some more ≡ true → some (ss ++ more) ≡ true
 some_append [] more e = e
 some_append (s ∷ ss) more e = refl
 
 pub nothing_more : (h : Option (List Said)) (more : List Said) → some more ≡ true → nothing (with_more h more) ≡ false
-nothing_more h [] e = absurd cc
-nothing_more None (s ∷ more) e = refl
-nothing_more (Some ss) (s ∷ more) e = nothing_cond (leb (length (ss ++ s ∷ more)) 4096) (ss ++ s ∷ more) (some_append ss (s ∷ more) refl)
+nothing_more h more any = ⊎_elim (λ e. ap nothing e) (λ r. ap nothing r.2 ∙ ap not (some_append r.0 more any)) (more_cases h more)
 
 -- as the code adds steps
 room_held : (items more : List Step) → length items + length more ≤ 4096 → Some (map said_of (items ++ more)) ≡ with_more (Some (map said_of items)) (map said_of more)
@@ -114,46 +103,28 @@ copies_more : {A : Type 0} (n : ℕ) (xs : List A) → copies n xs ++ xs ≡ cop
 copies_more zero xs = sym (append-nil xs)
 copies_more (suc n) xs = append_assoc xs (copies n xs) xs ∙ ap (λ z. xs ++ z) (copies_more n xs)
 
-take_front : {A : Type 0} (n : ℕ) (xs ys : List A) → n ≡ length xs → take n (xs ++ ys) ≡ xs
-take_front zero [] ys e = refl
-take_front zero (x ∷ xs) ys e = absurd (omega arith)
-take_front (suc n) [] ys e = absurd (omega arith)
-take_front (suc n) (x ∷ xs) ys e = ap (λ z. x ∷ z) (take_front n xs ys (omega arith))
-
-part_of : (ss more : List Said) (from : ℕ) → from ≤ length ss → part from (length ss) (Some (ss ++ more)) ≡ drop from ss
-part_of ss more from h = ap (take (length ss - from)) (drop-append-le from ss more h) ∙ take_front (length ss - from) (drop from ss) more (omega (arith, length-drop from ss))
-
 -- what is added once more stands in what was there at first
-part_cond : (b : Bool) (ss more : List Said) (from : ℕ) → from ≤ length ss → (cond b (Some (ss ++ more)) None ≡ None) ⊎ (part from (length ss) (cond b (Some (ss ++ more)) None) ≡ drop from ss)
-part_cond true ss more from h = inr (part_of ss more from h)
-part_cond false ss more from h = inl refl
+part_of : (ss more : List Said) (from : ℕ) → from ≤ length ss → part from (length ss) (Some (ss ++ more)) ≡ part from (length ss) (Some ss)
+part_of ss more from h = ap (take (length ss - from)) (drop-append-le from ss more h) ∙ take-append-le (length ss - from) (drop from ss) more (omega (arith, length-drop from ss))
 
-part_more : (h : Option (List Said)) (more : List Said) (from : ℕ) → IfSome h (λ ss. from < length ss) → (with_more h more ≡ None) ⊎ (part from (size h) (with_more h more) ≡ part from (size h) h)
-part_more None more from w = inl (none_more more)
-part_more (Some ss) [] from w = inr refl
-part_more (Some ss) (s ∷ more) from w =
-    let same : part from (length ss) (Some ss) ≡ drop from ss = take_all (length ss - from) (drop from ss) (omega (arith, length-drop from ss)) in
-    ⊎_elim (λ e. inl e) (λ e. inr (e ∙ sym same)) (part_cond (leb (length (ss ++ s ∷ more)) 4096) ss (s ∷ more) from (omega arith))
+module _ (h : Option (List Said)) (from : ℕ) (w : IfSome h (λ ss. from < length ss)) where
+  part_more : (more : List Said) → (with_more h more ≡ None) ⊎ (part from (size h) (with_more h more) ≡ part from (size h) h)
+  part_more more =
+      ⊎_elim (λ e. inl e)
+      (λ r. let v = subst (λ (o : Option (List Said)). IfSome o (λ ss. from < length ss)) r.1 w in
+      inr (subst (λ (o : Option (List Said)). part from (size o) (with_more h more) ≡ part from (size o) o) (sym r.1)
+      (subst (λ (p : Option (List Said)). part from (length r.0) p ≡ part from (length r.0) (Some r.0)) (sym r.2) (part_of r.0 more from (omega arith)))))
+      (more_cases h more)
 
-pub added : (h : Option (List Said)) (from n : ℕ) → IfSome h (λ ss. from < length ss) →
-    with_more (with_more h (copies n (part from (size h) h))) (part from (size h) (with_more h (copies n (part from (size h) h)))) ≡ with_more h (copies (suc n) (part from (size h) h))
-added h from n w =
-    let once = part from (size h) h in
-    let all : with_more (with_more h (copies n once)) once ≡ with_more h (copies (suc n) once) = more_more h (copies n once) once ∙ ap (with_more h) (copies_more n once) in
-    ⊎_elim
-    (λ e. ap (λ (o : Option (List Said)). with_more o (part from (size h) o)) e ∙ sym (ap (λ (o : Option (List Said)). with_more o once) e ∙ none_more once) ∙ all)
-    (λ e. ap (with_more (with_more h (copies n once))) e ∙ all)
-    (part_more h (copies n once) from w)
-
-within_cond : (b : Bool) (ss more : List Said) (from : ℕ) → from < length ss → IfSome (cond b (Some (ss ++ more)) None) (λ z. (from < length ss) × (length ss ≤ length z))
-within_cond true ss more from h = (h, omega (arith, length-append ss more))
-within_cond false ss more from h = tt
-
-pub added_within : (h : Option (List Said)) (more : List Said) (from : ℕ) → IfSome h (λ ss. from < length ss) → IfSome (with_more h more) (λ z. (from < size h) × (size h ≤ length z))
-added_within None [] from w = tt
-added_within None (s ∷ more) from w = tt
-added_within (Some ss) [] from w = (w, omega arith)
-added_within (Some ss) (s ∷ more) from w = within_cond (leb (length (ss ++ s ∷ more)) 4096) ss (s ∷ more) from w
+  pub added : (n : ℕ) → with_more (with_more h (copies n (part from (size h) h))) (part from (size h) (with_more h (copies n (part from (size h) h)))) ≡ with_more h (copies (suc n) (part from (size h) h))
+  added n =
+      let once = part from (size h) h in
+      let now' = with_more h (copies n once) in
+      let all : with_more now' once ≡ with_more h (copies (suc n) once) = more_more h (copies n once) once ∙ ap (with_more h) (copies_more n once) in
+      ⊎_elim
+      (λ e. ap (λ (o : Option (List Said)). with_more o (part from (size h) o)) e ∙ sym (ap (λ (o : Option (List Said)). with_more o once) e ∙ none_more once) ∙ all)
+      (λ e. ap (with_more now') e ∙ all)
+      (part_more (copies n once))
 
 -- a repetition of what was added
 drop_front : (ss more : List Said) → drop (length ss) (ss ++ more) ≡ more
@@ -163,33 +134,22 @@ drop_front (s ∷ ss) more = drop_front ss more
 part_end : (ss more : List Said) → part (length ss) (length (ss ++ more)) (Some (ss ++ more)) ≡ more
 part_end ss more = ap (take (length (ss ++ more) - length ss)) (drop_front ss more) ∙ take_all (length (ss ++ more) - length ss) more (omega (arith, length-append ss more))
 
-end_cond : (b : Bool) (ss more : List Said) → (cond b (Some (ss ++ more)) None ≡ None) ⊎ (part (length ss) (size (cond b (Some (ss ++ more)) None)) (cond b (Some (ss ++ more)) None) ≡ more)
-end_cond true ss more = inr (part_end ss more)
-end_cond false ss more = inl refl
+module _ (h : Option (List Said)) (more : List Said) where
+  part_behind : (with_more h more ≡ None) ⊎ (part (size h) (size (with_more h more)) (with_more h more) ≡ more)
+  part_behind =
+      ⊎_elim (λ e. inl e)
+      (λ r. inr (subst (λ (o : Option (List Said)). part (size o) (size (with_more h more)) (with_more h more) ≡ more) (sym r.1)
+      (subst (λ (p : Option (List Said)). part (length r.0) (size p) p ≡ more) (sym r.2) (part_end r.0 more))))
+      (more_cases h more)
 
-part_behind : (h : Option (List Said)) (more : List Said) → some more ≡ true → (with_more h more ≡ None) ⊎ (part (size h) (size (with_more h more)) (with_more h more) ≡ more)
-part_behind h [] e = absurd cc
-part_behind None (s ∷ more) e = inl refl
-part_behind (Some ss) (s ∷ more) e = end_cond (leb (length (ss ++ s ∷ more)) 4096) ss (s ∷ more)
-
-pub repeated : (h : Option (List Said)) (more : List Said) (n : ℕ) → some more ≡ true → 1 ≤ n →
-    with_more (with_more h more) (copies (n - 1) (part (size h) (size (with_more h more)) (with_more h more))) ≡ with_more h (copies n more)
-repeated h more zero any low = absurd (omega arith)
-repeated h more (suc n) any low =
-    let same : suc n - 1 ≡ n = omega arith in
-    let all : with_more (with_more h more) (copies n more) ≡ with_more h (copies (suc n) more) = more_more h more (copies n more) in
-    ap (λ (m : ℕ). with_more (with_more h more) (copies m (part (size h) (size (with_more h more)) (with_more h more)))) same
-    ∙ ⊎_elim
-    (λ e. ap (λ (o : Option (List Said)). with_more o (copies n (part (size h) (size o) o))) e ∙ none_more (copies n []) ∙ sym (ap (λ (o : Option (List Said)). with_more o (copies n more)) e ∙ none_more (copies n more)) ∙ all)
-    (λ e. ap (λ (z : List Said). with_more (with_more h more) (copies n z)) e ∙ all)
-    (part_behind h more any)
-
-behind_cond : (b : Bool) (ss more : List Said) → some more ≡ true → IfSome (cond b (Some (ss ++ more)) None) (λ z. length ss < length z)
-behind_cond true ss [] e = absurd cc
-behind_cond true ss (s ∷ more) e = omega (arith, length-append ss (s ∷ more))
-behind_cond false ss more e = tt
-
-pub repeated_within : (h : Option (List Said)) (more : List Said) → some more ≡ true → IfSome (with_more h more) (λ z. size h < length z)
-repeated_within h [] e = absurd cc
-repeated_within None (s ∷ more) e = tt
-repeated_within (Some ss) (s ∷ more) e = behind_cond (leb (length (ss ++ s ∷ more)) 4096) ss (s ∷ more) refl
+  pub repeated : (n : ℕ) → 1 ≤ n → with_more (with_more h more) (copies (n - 1) (part (size h) (size (with_more h more)) (with_more h more))) ≡ with_more h (copies n more)
+  repeated zero low = absurd (omega arith)
+  repeated (suc n) low =
+      let now' = with_more h more in
+      let same : suc n - 1 ≡ n = omega arith in
+      let all : with_more now' (copies n more) ≡ with_more h (copies (suc n) more) = more_more h more (copies n more) in
+      ap (λ (m : ℕ). with_more now' (copies m (part (size h) (size now') now'))) same
+      ∙ ⊎_elim
+      (λ e. ap (λ (o : Option (List Said)). with_more o (copies n (part (size h) (size o) o))) e ∙ none_more (copies n []) ∙ sym (ap (λ (o : Option (List Said)). with_more o (copies n more)) e ∙ none_more (copies n more)) ∙ all)
+      (λ e. ap (λ (z : List Said). with_more now' (copies n z)) e ∙ all)
+      part_behind

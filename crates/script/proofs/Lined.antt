@@ -12,7 +12,7 @@ use Rattle.script.specs.Plans.{limited, nothing, fresh, Formed, Lined, Behind}
 use Rattle.script.specs.Scripts.{Whole, Comes, too_many_steps, stopped, steps, Steps, Refusal}
 use Rattle.scan.proofs.Lists.{empty_list}
 use Rattle.scan.proofs.Steps.{fits_outside, fits_line_end, goes_on}
-use Rattle.script.proofs.Kept.{holds_more, first_by, limited_over, limited_same, limited_within}
+use Rattle.script.proofs.Kept.{holds_more, first_by, limited_by}
 use Rattle.script.proofs.Onward.{leads_to}
 
 module _ (said : List Said) (X : Reader) where
@@ -81,8 +81,9 @@ module _ (script : List ℕ) (short : length script ≤ 16384) (E : Expander) (f
 
   pub read_done : {V : Type 0} (items : V → List Step) (h : Option V) (r : Result V ReaderFault) → left E.reader ≡ 0 → option_map (λ v. map said_of (items v)) h ≡ limited f.said → r ≡ ok_or h fault.TooLong → MatchResult r (λ v. Steps script (items v)) (λ g. Refusal script g)
   read_done items None (Ok v) e k m = absurd cc
-  read_done items None (Err g) e k m = subst (Refusal script) (let z : fault.TooLong ≡ g = cc in z) (too_many_steps short (whole e) (limited_over f.said (sym k)))
+  read_done items None (Err g) e k m = subst (Refusal script) (let z : fault.TooLong ≡ g = cc in z) (too_many_steps short (whole e) (limited_by f.said None (sym k)))
   read_done items (Some w) (Err g) e k m = absurd cc
   read_done {V} items (Some w) (Ok v) e k m =
-      let same : map said_of (items v) ≡ f.said = ap (λ (z : V). map said_of (items z)) (let z : v ≡ w = cc in z) ∙ limited_same f.said (map said_of (items w)) (sym k) in
-      subst (λ (z : List Said). Comes script (done z)) (sym same) (steps short (whole e) (limited_within f.said (map said_of (items w)) (sym k)))
+      let by = limited_by f.said (Some (map said_of (items w))) (sym k) in
+      let same : map said_of (items v) ≡ f.said = ap (λ (z : V). map said_of (items z)) (let z : v ≡ w = cc in z) ∙ by.0 in
+      subst (λ (z : List Said). Comes script (done z)) (sym same) (steps short (whole e) by.1)

@@ -57,6 +57,7 @@ impl<'a> Expander<'a> {
 }
 
 // The steps of a script, or why it is refused.
+#[tactic(auto, using(crate::proofs::Back::exactly_one, crate::proofs::Lined::behind_more))]
 pub fn read<'a>(heap: Global, script: &'a [u8]) -> Result<Vec<Step<'a>>, ReaderFault>
     ensures exact { MatchResult result (λ v. Steps script.now v.items) (λ f. Refusal script.now f) }
     ensures one { ExactlyOne script.now }

@@ -3,7 +3,6 @@ use Rattle.std.proofs.lemmas.Result.{err_from_is_err_and}
 use Rattle.std.proofs.lemmas.Bool.{ltb-true}
 use Rattle.scan.specs.Forms.{times}
 use Rattle.script.specs.Plans.{Repeats}
-use Rattle.script.proofs.Kept.{repeated_within}
 use Rattle.script.proofs.Formed.{head_on, head_to, head_later, inside_on, inside_to, filled_none, filled_more, filled_end, filled_any, times_begun, count_on, count_low, times_formed, call_formed}
 use Rattle.script.proofs.forms.Expander.+form.Goals as goal
 
@@ -34,11 +33,6 @@ pub loop-self-preserved : goal.loop-self-preserved
 loop-self-preserved t c =
     let low : 0 < c.args.inner = ltb-true 0 c.args.inner (c.in_ok-inside.ensures.may c.if-branch.true) in
     filled_more c.args.inner c.loop-self.empty (record { reader = c.natural.new.self; plan = c.args.self.now.plan }) c.loop-self.self c.loop-self.invariant c.in_ok-inside.field-0 c.inside.new.self c.in_ok-inside.ensures.picks c.form.new.self c.if-branch.true low c.in_ok-form.ensures.forms c.in_ok-inside.ensures.shorter c.in_ok-form.ensures.shorter
-
-pub repeat-requires : goal.repeat-requires
-repeat-requires t c =
-    let any = filled_any c.args.inner c.loop-self.empty (record { reader = c.natural.new.self; plan = c.args.self.now.plan }) c.loop-self.self c.loop-self.invariant c.in_ok-inside.field-0 c.inside.new.self c.in_ok-inside.ensures.picks c.if-branch.false in
-    rw (c.len-start.ensures, c.loop-self.invariant.grows) (repeated_within c.args.self.now.plan c.loop-self.invariant.steps any)
 
 pub returns-in_default-clause-forms : goal.returns-in_default-clause-forms
 returns-in_default-clause-forms t c =

@@ -15,7 +15,7 @@ loop-preserved c =
       holds = c.in_ok-add.ensures
           ∙ ap (λ (to : ℕ). with_more now' (part from to now')) c.len-end.ensures
           ∙ ap (λ (o : Option (List Said)). with_more o (part from (size h) o)) c.loop.invariant.holds
-          ∙ added h from (c.loop.counter - 1) c.requires
+          ∙ added h from c.requires (c.loop.counter - 1)
           ∙ ap (λ (m : ℕ). with_more h (copies m (part from (size h) h))) next;
       within = omega arith;
     }
