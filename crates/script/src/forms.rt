@@ -44,6 +44,7 @@ impl<'a> Expander<'a> {
     }
 
     // One line: a form, or none.
+    #[tactic(auto, using(crate::proofs::Lined::lined_form, crate::proofs::Lined::lined_none))]
     fn line(&mut self) -> Result<(), ReaderFault>
         ensures lines { ReadsLine result self.old self.new }
         ensures eats { Eats result self.old.reader self.new.reader }
