@@ -23,7 +23,7 @@ fit_none (arguing v got (κ ∷ κs) k) = rw (no_argument κ)
 fit_none (over d) = refl
 
 differ : {P : Type 0} {u : State} {o : Option State} → o ≡ Some u → o ≡ None → P
-differ e f = cc
+differ e f = absurd cc
 
 from_end : (s : State) (d : List Said) (l c : ℕ) (xs : List ℕ) (p : Outcome) → s ≡ start (bottom d) → xs ≡ [] → Reads s l c xs p → done d ≡ p
 unfolding fit next next_here
@@ -35,7 +35,7 @@ from_end s d l c xs p es ex (goes u e r) =
     from_end u d _ _ _ p same (ap (λ (z : List ℕ). (next l c z).rest) ex) r
 from_end s d l c xs p es ex (unread z) =
     let te : (next l c xs).tok ≡ line_end = ap (λ (z : List ℕ). (next l c z).tok) ex in
-    cc
+    absurd cc
 from_end s d l c xs p es ex (unfit n z) =
     let te : (next l c xs).tok ≡ line_end = ap (λ (z : List ℕ). (next l c z).tok) ex in
     let f : Some (start (bottom d)) ≡ None = sym (ap (λ (z : State). fit z (next l c xs).tok) es ∙ ap (fit (start (bottom d))) te) ∙ z in

@@ -1,5 +1,5 @@
 -- What the functions of the reader answer, in terms of tokens and of the reading of a script.
-use Rattle.std.specs.Prelude.{◌≡◌, ℕ, ◌<◌, ◌≤◌, Bool, true, false, cond, ◌≢◌, List, [], ◌∷◌, ◌++◌, length, Some, None, Ok, Err, codes, Option, Result, OnOk}
+use Rattle.std.specs.Prelude.{◌≡◌, ℕ, ◌<◌, ◌≤◌, Bool, true, false, cond, ◌≢◌, List, [], ◌∷◌, ◌++◌, map, length, Some, None, Ok, Err, codes, Option, Result, OnOk}
 use Rattle.std.specs.Bool.{beq}
 use Rattle.std.specs.Str.{bytes_eq}
 use Rattle.scan.specs.declared.types.Token.{Token}
@@ -46,29 +46,15 @@ abbrev pub Takes : Next → Result Placed ReaderFault → ℕ → ℕ → List �
 Takes g (Ok p) l c xs = Took g p l c xs
 Takes g (Err f) l c xs = (f ≡ no_token_at g) × (g.tok ≡ none)
 
--- the token at a place cannot be read, or is not taken for anything
-pub data Misses {A : Type 0} (pick : Tok → Option A) (g : Next) : ReaderFault → Type 0 where
-  misread : g.tok ≡ none → Misses pick g (no_token_at g)
-  mistaken : g.tok ≢ none → pick g.tok ≡ None → Misses pick g (unfit_at g)
+-- the token at a place cannot be read, or is taken for nothing
+pub data Misses {A : Type 0} (taken : Tok → Option A → Type 0) (g : Next) : ReaderFault → Type 0 where
+  misread : g.tok ≡ none → Misses taken g (no_token_at g)
+  mistaken : g.tok ≢ none → taken g.tok None → Misses taken g (unfit_at g)
 
 -- what the token at a place is taken for, or the fault there
-abbrev pub Picks : {A : Type 0} → (Tok → Option A) → Next → Result A ReaderFault → ℕ → ℕ → List ℕ → Type 0
-Picks pick g (Ok a) l c xs = (pick g.tok ≡ Some a) × (l ≡ g.line_after) × (c ≡ g.column_after) × (xs ≡ g.rest)
-Picks pick g (Err f) l c xs = Misses pick g f
-
--- the same of a value that stands for what the token is taken for
-abbrev pub PicksAs : {A B : Type 0} → (A → B) → (Tok → Option B) → Next → Result A ReaderFault → ℕ → ℕ → List ℕ → Type 0
-PicksAs f pick g (Ok a) l c xs = (pick g.tok ≡ Some (f a)) × (l ≡ g.line_after) × (c ≡ g.column_after) × (xs ≡ g.rest)
-PicksAs f pick g (Err e) l c xs = Misses pick g e
-
--- from one state and place the reading comes to what it comes to from another
-abbrev pub Leads : State → ℕ → ℕ → List ℕ → State → ℕ → ℕ → List ℕ → Type 0
-Leads s l c xs u m d ys = (o : Outcome) → Reads u m d ys o → Reads s l c xs o
-
--- an answer of the code from a state on: the reading goes on from the state that the value gives, or ends with the fault
-abbrev pub Onward : {A : Type 0} → State → ℕ → ℕ → List ℕ → Result A ReaderFault → (A → State) → ℕ → ℕ → List ℕ → Type 0
-Onward s l c xs (Ok a) u m d ys = Leads s l c xs (u a) m d ys
-Onward s l c xs (Err f) u m d ys = Reads s l c xs (refused f)
+abbrev pub Picks : {A : Type 0} → (Tok → Option A → Type 0) → Next → Result A ReaderFault → Reader → Type 0
+Picks taken g (Ok a) after = taken g.tok (Some a) × (after.line ≡ g.line_after) × (after.column ≡ g.column_after) × (after.rest.now ≡ g.rest)
+Picks taken g (Err f) after = Misses taken g f
 
 -- what stands behind a form's bracket: `times`, which is none, or the word of a call
 abbrev pub head_word : Bool → List ℕ → Option (Option Verb)
@@ -99,15 +85,9 @@ abbrev pub some : {A : Type 0} → List A → Bool
 some [] = false
 some (x ∷ xs) = true
 
--- behind one, two and three further numbers and the closing bracket
-abbrev pub said1 : Verb → List Arg → Open → ℕ → State
-said1 v got k a = ended (add (says v (got ++ nat a ∷ []) ∷ []) k)
-
-abbrev pub said2 : Verb → List Arg → Open → ℕ × ℕ → State
-said2 v got k p = ended (add (says v ((got ++ nat p.0 ∷ []) ++ nat p.1 ∷ []) ∷ []) k)
-
-abbrev pub said3 : Verb → List Arg → Open → ℕ × ℕ × ℕ → State
-said3 v got k p = ended (add (says v (((got ++ nat p.0 ∷ []) ++ nat p.1 ∷ []) ++ nat p.2 ∷ []) ∷ []) k)
+-- behind further numbers and the closing bracket
+abbrev pub said_numbers : Verb → List Arg → Open → List ℕ → State
+said_numbers v got k ns = ended (add (says v (got ++ map nat ns) ∷ []) k)
 
 -- behind a step
 abbrev pub said_step : Open → Step → State
@@ -128,14 +108,25 @@ FindsHere g r after = Finds g r after.line after.column after.rest.now
 abbrev pub TakesFrom : Next → Result Placed ReaderFault → Reader → Type 0
 TakesFrom g r after = Takes g r after.line after.column after.rest.now
 
+-- what a word of these definitions takes the token for, and what a function of the code does
 abbrev pub PicksFrom : {A : Type 0} → (Tok → Option A) → Next → Result A ReaderFault → Reader → Type 0
-PicksFrom pick g r after = Picks pick g r after.line after.column after.rest.now
+PicksFrom pick g r after = Picks (λ t o. pick t ≡ o) g r after
 
-abbrev pub PicksFromAs : {A B : Type 0} → (A → B) → (Tok → Option B) → Next → Result A ReaderFault → Reader → Type 0
-PicksFromAs f pick g r after = PicksAs f pick g r after.line after.column after.rest.now
+unfoldable pub PicksBy : {A : Type 0} → (Token → Option A → Type 0) → Next → Result A ReaderFault → Reader → Type 0
+PicksBy answers g r after = Picks (λ t o. (k : Token) × (tok_of k ≡ t) × answers k o) g r after
 
+-- what the reading comes to from a state, where a reader stands
+abbrev pub ReadsAt : State → Reader → Outcome → Type 0
+ReadsAt s at o = Reads s at.line at.column at.rest.now o
+
+-- from where one reader stands the reading comes to what it comes to from another state and reader
+abbrev pub LeadsAt : State → Reader → State → Reader → Type 0
+LeadsAt s before u after = (o : Outcome) → ReadsAt u after o → ReadsAt s before o
+
+-- an answer of the code from a state on: the reading goes on from the state that the value gives, or ends with the fault
 abbrev pub GoesOn : {A : Type 0} → State → Reader → Result A ReaderFault → (A → State) → Reader → Type 0
-GoesOn s before r u after = Onward s before.line before.column before.rest.now r u after.line after.column after.rest.now
+GoesOn s before (Ok a) u after = LeadsAt s before (u a) after
+GoesOn s before (Err f) u after = ReadsAt s before (refused f)
 
 -- a call that answers has not gone back, and one that eats has gone on where there was something to read
 abbrev pub Shortens : {A : Type 0} → Result A ReaderFault → Reader → Reader → Type 0
