@@ -1,13 +1,12 @@
 -- Numbers one after another, each behind those before it.
 use Rattle.std.proofs.Common.{◌≡◌, ℕ, suc, ◌-◌, ◌≤◌, List, [], ◌∷◌, ◌++◌, map, length, get_or, take, replicate, Ok, sym, ap, ◌∙◌, subst, append_assoc, append-nil, arith}
 use mathlib.Core.List.{map-append}
-use Rattle.std.proofs.lemmas.List.{take_all}
+use Rattle.std.proofs.lemmas.List.{take_all, nil_from_length}
 use Rattle.scan.specs.declared.reader.Reader.{Reader}
 use Rattle.scan.specs.declared.types.Verb.{Verb}
 use Rattle.scan.specs.Words.{a_number, Arg, nat, natural_of}
 use Rattle.scan.specs.Forms.{Open, arguing}
 use Rattle.scan.specs.Taking.{PicksFrom, LeadsAt, ReadsAt, ahead}
-use Rattle.scan.proofs.Lists.{empty_list}
 use Rattle.scan.proofs.Steps.{number_on}
 
 -- of n numbers these have been read, and so many are to come
@@ -30,4 +29,4 @@ read_all n i ns X Y h all e =
 
 pub one_item : (xs : List ℕ) → length xs ≡ 1 → xs ≡ get_or xs 0 0 ∷ []
 one_item [] e = absurd (omega arith)
-one_item (x ∷ xs) e = ap (λ (t : List ℕ). x ∷ t) (empty_list xs (omega arith))
+one_item (x ∷ xs) e = ap (λ (t : List ℕ). x ∷ t) (nil_from_length xs (omega arith))
