@@ -1,4 +1,3 @@
-pub mod Lists
 pub mod Nexts
 pub mod Taken
 pub mod Shorter
@@ -7,3 +6,4 @@ pub mod Inside
 pub mod Once
 pub mod Arguments
 pub mod Spelled
+pub mod Runs

@@ -23,7 +23,7 @@ fit_none (arguing v got (κ ∷ κs) k) = rw (no_argument κ)
 fit_none (over d) = refl
 
 differ : {P : Type 0} {u : State} {o : Option State} → o ≡ Some u → o ≡ None → P
-differ e f = let z : ◌≡◌ {A = ℕ} 0 1 = cc in absurd (omega arith)
+differ e f = absurd cc
 
 from_end : (s : State) (d : List Said) (l c : ℕ) (xs : List ℕ) (p : Outcome) → s ≡ start (bottom d) → xs ≡ [] → Reads s l c xs p → done d ≡ p
 unfolding fit next next_here
@@ -35,7 +35,7 @@ from_end s d l c xs p es ex (goes u e r) =
     from_end u d _ _ _ p same (ap (λ (z : List ℕ). (next l c z).rest) ex) r
 from_end s d l c xs p es ex (unread z) =
     let te : (next l c xs).tok ≡ line_end = ap (λ (z : List ℕ). (next l c z).tok) ex in
-    let y : ◌≡◌ {A = ℕ} 0 1 = cc in absurd (omega arith)
+    absurd cc
 from_end s d l c xs p es ex (unfit n z) =
     let te : (next l c xs).tok ≡ line_end = ap (λ (z : List ℕ). (next l c z).tok) ex in
     let f : Some (start (bottom d)) ≡ None = sym (ap (λ (z : State). fit z (next l c xs).tok) es ∙ ap (fit (start (bottom d))) te) ∙ z in
@@ -66,7 +66,7 @@ no_argument_at_end a_text = refl
 no_argument_at_end a_layout = refl
 
 end_is_a_token : line_end ≢ none
-end_is_a_token e = let z : ◌≡◌ {A = ℕ} 0 1 = cc in omega arith
+end_is_a_token e = cc
 
 -- at the end of the script
 outcome_at_end : (s : State) (l c : ℕ) → (o : Outcome) × Reads s l c [] o
@@ -86,12 +86,12 @@ module _ (s : State) (l c : ℕ) (xs : List ℕ) (on : (u : State) → (o : Outc
 
   outcome_by_token : (t : Tok) → (next l c xs).tok ≡ t → (o : Outcome) × Reads s l c xs o
   outcome_by_token none e = (_, unread e)
-  outcome_by_token opens e = outcome_by_fit (fit s (next l c xs).tok) refl (λ f. let z : ◌≡◌ {A = ℕ} 0 1 = cc in omega arith)
-  outcome_by_token closes e = outcome_by_fit (fit s (next l c xs).tok) refl (λ f. let z : ◌≡◌ {A = ℕ} 0 1 = cc in omega arith)
-  outcome_by_token (numeral m n) e = outcome_by_fit (fit s (next l c xs).tok) refl (λ f. let z : ◌≡◌ {A = ℕ} 0 1 = cc in omega arith)
-  outcome_by_token (word w) e = outcome_by_fit (fit s (next l c xs).tok) refl (λ f. let z : ◌≡◌ {A = ℕ} 0 1 = cc in omega arith)
-  outcome_by_token (text t) e = outcome_by_fit (fit s (next l c xs).tok) refl (λ f. let z : ◌≡◌ {A = ℕ} 0 1 = cc in omega arith)
-  outcome_by_token line_end e = outcome_by_fit (fit s (next l c xs).tok) refl (λ f. let z : ◌≡◌ {A = ℕ} 0 1 = cc in omega arith)
+  outcome_by_token opens e = outcome_by_fit (fit s (next l c xs).tok) refl (λ f. cc)
+  outcome_by_token closes e = outcome_by_fit (fit s (next l c xs).tok) refl (λ f. cc)
+  outcome_by_token (numeral m n) e = outcome_by_fit (fit s (next l c xs).tok) refl (λ f. cc)
+  outcome_by_token (word w) e = outcome_by_fit (fit s (next l c xs).tok) refl (λ f. cc)
+  outcome_by_token (text t) e = outcome_by_fit (fit s (next l c xs).tok) refl (λ f. cc)
+  outcome_by_token line_end e = outcome_by_fit (fit s (next l c xs).tok) refl (λ f. cc)
 
 outcome_within : (n : ℕ) (s : State) (l c : ℕ) (xs : List ℕ) → length xs ≤ n → (o : Outcome) × Reads s l c xs o
 outcome_within n s l c [] h = outcome_at_end s l c

@@ -69,5 +69,5 @@ takes_eats l c xs (Err f) m d ys t = tt
 -- a bracket does not stand at the end
 pub open_eats : (l c : ℕ) (xs : List ℕ) (p : Placed) (m d : ℕ) (ys : List ℕ) → Took (next l c xs) p m d ys → p.token ≡ token.Open → length ys < length xs
 unfolding next next_here
-open_eats l c [] p m d ys t e = let f : opens ≡ line_end = sym (ap tok_of e) ∙ t.tok in let z : ◌≡◌ {A = ℕ} 0 1 = cc in absurd (omega arith)
+open_eats l c [] p m d ys t e = let f : opens ≡ line_end = sym (ap tok_of e) ∙ t.tok in cc
 open_eats l c (x ∷ xs) p m d ys t e = omega (arith, ap length t.rest, next_shorter l c (x ∷ xs) (omega arith))

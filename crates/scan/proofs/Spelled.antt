@@ -1,7 +1,5 @@
 -- Words that are spelled so.
-use Rattle.std.proofs.Common.{◌≡◌, ℕ, Bool, true, false, cond, List, Some, Option, sym, refl, ap, ◌∙◌}
-use Rattle.std.specs.Str.{bytes_eq}
-use Rattle.std.proofs.lemmas.Slice.Eq.{bytes_eq-Decides}
+use Rattle.std.proofs.Common.{◌≡◌, ℕ, List, Some, sym, refl, ap, ◌∙◌}
 use Rattle.scan.specs.declared.types.Verb.{Verb}
 use Rattle.scan.specs.declared.types.Verb.TheVariants as verb
 use Rattle.scan.specs.Words.{spelled, verb_of}
@@ -23,9 +21,5 @@ verb_spelled verb.Same = refl
 verb_spelled verb.Collect = refl
 
 -- the word that these bytes spell
-pub verb_known : (v : Verb) (w : List ℕ) → true ≡ bytes_eq w (spelled v) → Some v ≡ verb_of w
-verb_known v w e = sym (ap verb_of ((bytes_eq-Decides w (spelled v)).0 (sym e)) ∙ verb_spelled v)
-
--- they spell another
-pub past : (b : Bool) (x y z : Option Verb) → false ≡ b → z ≡ y → z ≡ cond b x y
-past b x y z e f = f ∙ ap (λ (t : Bool). cond t x y) e
+pub verb_known : (v : Verb) (w : List ℕ) → w ≡ spelled v → Some v ≡ verb_of w
+verb_known v w e = sym (ap verb_of e ∙ verb_spelled v)

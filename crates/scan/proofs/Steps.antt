@@ -1,67 +1,70 @@
 -- From what a token is taken for to the state behind it.
-use Rattle.std.proofs.Common.{◌≡◌, ℕ, ◌+◌, Bool, true, false, cond, ltb, List, [], ◌∷◌, ◌++◌, Some, None, Ok, Err, Option, Result, sym, refl, ap, ◌∙◌, subst}
+use Rattle.std.proofs.Common.{◌≡◌, ℕ, ◌+◌, Bool, true, false, cond, ltb, List, [], ◌∷◌, ◌++◌, Some, None, Ok, Err, Option, option_map, Result, sym, refl, ap, ◌∙◌, subst}
 use Rattle.scan.specs.declared.types.ReaderFault.{ReaderFault}
 use Rattle.scan.specs.declared.types.Verb.{Verb}
 use mathlib.Core.Bool.{beq}
-use Rattle.scan.specs.Tokens.{Tok, next}
-use Rattle.scan.specs.Words.{Kind, Arg, nat, int, chars, layout, a_number, a_cell_count, a_signed, a_text, a_layout, signed_of, text_of, word_of, layout_of, verb_of, is_open, is_opens, is_line_end, kinds, Said, says, bind, natural_of, is_closes}
-use Rattle.scan.specs.Forms.{first, depth, copies, bottom, times, start, opened, counting, over, begun, State, Open, arguing, ended, add, fit, Reads, goes, unread, unfit, Outcome, refused}
-use Rattle.scan.specs.Taking.{some, head_of, head_word, headed, inside_of, outside_of, line_end_of, closes_of, Leads, Onward, Picks, Misses, misread, mistaken}
+use Rattle.scan.specs.Tokens.{Tok}
+use Rattle.scan.specs.Words.{Kind, Arg, nat, a_number, a_cell_count, word_of, verb_of, is_open, is_opens, is_line_end, kinds, Said, says, bind, natural_of, argument, is_closes}
+use Rattle.scan.specs.Forms.{first, depth, copies, bottom, times, start, opened, counting, over, begun, State, Open, arguing, ended, add, fit, Reads, goes, unread, unfit, Outcome}
+use Rattle.scan.specs.Taking.{some, head_of, head_word, headed, inside_of, outside_of, line_end_of, closes_of, tok_of, Picks, PicksBy, PicksFrom, misread, mistaken, ahead, GoesOn}
+use Rattle.scan.specs.declared.reader.Reader.{Reader}
+use Rattle.scan.specs.declared.types.Token.{Token}
 
 pub moved : (s : State) (o : Outcome) (l m c d : ℕ) (xs ys : List ℕ) → l ≡ m → c ≡ d → xs ≡ ys → Reads s l c xs o → Reads s m d ys o
 moved s o l m c d xs ys e f g r = subst (λ (z : List ℕ). Reads s m d z o) g (subst (λ (z : ℕ). Reads s m z xs o) f (subst (λ (z : ℕ). Reads s z c xs o) e r))
 
-module _ {A : Type 0} (s : State) (pick : Tok → Option A) (u : A → State) (fits : (t : Tok) → fit s t ≡ bind (pick t) (λ a. Some (u a))) (l c : ℕ) (xs : List ℕ) where
-  pub takes_on : (a : A) (m d : ℕ) (ys : List ℕ) → Picks pick (next l c xs) (Ok a) m d ys → Leads s l c xs (u a) m d ys
-  takes_on a m d ys h o r =
-      goes (u a) (fits (next l c xs).tok ∙ ap (λ (p : Option A). bind p (λ a. Some (u a))) h.0) (moved (u a) o m _ d _ ys _ h.1 h.2 h.3 r)
+-- where what a token is taken for gives the state behind it
+pub onward : {A : Type 0} (s : State) (taken : Tok → Option A → Type 0) (u : A → State) → ((t : Tok) (o : Option A) → taken t o → fit s t ≡ bind o (λ a. Some (u a))) → (X : Reader) (r : Result A ReaderFault) (Y : Reader) → Picks taken (ahead X) r Y → GoesOn s X r u Y
+onward s taken u fits X (Ok a) Y h = λ o r. goes (u a) (fits (ahead X).tok (Some a) h.0) (moved (u a) o Y.line _ Y.column _ Y.rest.now _ h.1 h.2 h.3 r)
+onward s taken u fits X (Err f) Y (misread z) = unread z
+onward s taken u fits X (Err f) Y (mistaken n z) = unfit n (fits (ahead X).tok None z)
 
-  pub stops : (f : ReaderFault) → Misses pick (next l c xs) f → Reads s l c xs (refused f)
-  stops f (misread z) = unread z
-  stops f (mistaken n z) = unfit n (fits (next l c xs).tok ∙ ap (λ (p : Option A). bind p (λ a. Some (u a))) z)
-
-  pub onward : (r : Result A ReaderFault) (m d : ℕ) (ys : List ℕ) → Picks pick (next l c xs) r m d ys → Onward s l c xs r u m d ys
-  onward (Ok a) m d ys h = takes_on a m d ys h
-  onward (Err f) m d ys h = stops f h
-
--- one reading after another
-pub onward_then : {A : Type 0} (s : State) (l c : ℕ) (xs : List ℕ) (t : State) (m d : ℕ) (ys : List ℕ) → Leads s l c xs t m d ys → (r : Result A ReaderFault) (w : A → State) (n e : ℕ) (zs : List ℕ) → Onward t m d ys r w n e zs → Onward s l c xs r w n e zs
-onward_then s l c xs t m d ys on (Ok a) w n e zs h = λ o r. on o (h o r)
-onward_then s l c xs t m d ys on (Err f) w n e zs h = on (refused f) h
+-- the same where a word says what a token is taken for
+pub goes_on : {A : Type 0} (s : State) (pick : Tok → Option A) (u : A → State) → ((t : Tok) → fit s t ≡ bind (pick t) (λ a. Some (u a))) → (X : Reader) (r : Result A ReaderFault) (Y : Reader) → PicksFrom pick (ahead X) r Y → GoesOn s X r u Y
+goes_on {A} s pick u fits X r Y h = onward s (λ t o. pick t ≡ o) u (λ t o e. fits t ∙ ap (λ (p : Option A). bind p (λ a. Some (u a))) e) X r Y h
 
 bind_bind : {A : Type 0} (f : A → Arg) (p : Option A) (v : Verb) (got : List Arg) (κs : List Kind) (k : Open) → bind (bind p (λ n. Some (f n))) (λ a. Some (arguing v (got ++ a ∷ []) κs k)) ≡ bind p (λ n. Some (arguing v (got ++ f n ∷ []) κs k))
 bind_bind f None v got κs k = refl
 bind_bind f (Some n) v got κs k = refl
 
--- an argument of each kind
-module _ (v : Verb) (got : List Arg) (κs : List Kind) (k : Open) (t : Tok) where
-  pub fits_number : fit (arguing v got (a_number ∷ κs) k) t ≡ bind (natural_of 0 2147483647 t) (λ n. Some (arguing v (got ++ nat n ∷ []) κs k))
-  unfolding fit
-  fits_number = bind_bind nat (natural_of 0 2147483647 t) v got κs k
-
-  pub fits_cells : fit (arguing v got (a_cell_count ∷ κs) k) t ≡ bind (natural_of 1 4096 t) (λ n. Some (arguing v (got ++ nat n ∷ []) κs k))
-  unfolding fit
-  fits_cells = bind_bind nat (natural_of 1 4096 t) v got κs k
-
-  pub fits_signed : fit (arguing v got (a_signed ∷ κs) k) t ≡ bind (signed_of t) (λ n. Some (arguing v (got ++ int n ∷ []) κs k))
-  unfolding fit
-  fits_signed = bind_bind int (signed_of t) v got κs k
-
-  pub fits_text : fit (arguing v got (a_text ∷ κs) k) t ≡ bind (text_of t) (λ n. Some (arguing v (got ++ chars n ∷ []) κs k))
-  unfolding fit
-  fits_text = bind_bind chars (text_of t) v got κs k
-
-  pub fits_layout : fit (arguing v got (a_layout ∷ κs) k) t ≡ bind (bind (word_of t) layout_of) (λ n. Some (arguing v (got ++ layout n ∷ []) κs k))
-  unfolding fit
-  fits_layout = bind_bind layout (bind (word_of t) layout_of) v got κs k
+-- where the code has what a word says by a view
+pub from_view : {A B : Type 0} (view : A → B) (f : B → Arg) (o : Option A) (p : Option B) → option_map view o ≡ p → bind p (λ b. Some (f b)) ≡ bind o (λ a. Some (f (view a)))
+from_view {A} {B} view f None p e = ap (λ (q : Option B). bind q (λ b. Some (f b))) (sym e)
+from_view {A} {B} view f (Some a) p e = ap (λ (q : Option B). bind q (λ b. Some (f b))) (sym e)
 
 bind_cond : (b : Bool) (u : State) → cond b (Some u) None ≡ bind {A = Unit {0}} (cond b (Some tt) None) (λ _. Some u)
 bind_cond true u = refl
 bind_cond false u = refl
 
-pub fits_close : (v : Verb) (got : List Arg) (k : Open) (t : Tok) → fit (arguing v got [] k) t ≡ bind (closes_of t) (λ _. Some (ended (add (says v got ∷ []) k)))
-unfolding fit
-fits_close v got k t = bind_cond (is_closes t) (ended (add (says v got ∷ []) k))
+bind_tt : {A : Type 0} (o : Option A) (u : State) → bind {A = Unit {0}} (bind o (λ _. Some tt)) (λ _. Some u) ≡ bind o (λ _. Some u)
+bind_tt None u = refl
+bind_tt (Some a) u = refl
+
+-- an argument of a kind, and the closing bracket, as a function of the code takes them
+module _ {A : Type 0} {answers : Token → Option A → Type 0} (v : Verb) (got : List Arg) (k : Open) (X : Reader) (r : Result A ReaderFault) (Y : Reader) (h : PicksBy answers (ahead X) r Y) where
+  pub argued : (κ : Kind) (κs : List Kind) (f : A → Arg) → ((t : Token) (o : Option A) → answers t o → argument κ (tok_of t) ≡ bind o (λ a. Some (f a))) → GoesOn (arguing v got (κ ∷ κs) k) X r (λ a. arguing v (got ++ f a ∷ []) κs k) Y
+  unfolding fit PicksBy
+  argued κ κs f is =
+      let behind = λ (p : Option Arg). bind p (λ a. Some (arguing v (got ++ a ∷ []) κs k)) in
+      onward (arguing v got (κ ∷ κs) k) (λ t o. (n : Token) × (tok_of n ≡ t) × answers n o) (λ a. arguing v (got ++ f a ∷ []) κs k)
+      (λ t o e. ap (λ (z : Tok). behind (argument κ z)) (sym e.1) ∙ ap behind (is e.0 o e.2) ∙ bind_bind f o v got κs k) X r Y h
+
+  pub closed : ((t : Token) (o : Option A) → answers t o → closes_of (tok_of t) ≡ bind o (λ _. Some tt)) → GoesOn (arguing v got [] k) X r (λ _. ended (add (says v got ∷ []) k)) Y
+  unfolding fit PicksBy
+  closed is =
+      let behind = ended (add (says v got ∷ []) k) in
+      onward (arguing v got [] k) (λ t o. (n : Token) × (tok_of n ≡ t) × answers n o) (λ _. behind)
+      (λ t o e. ap (λ (z : Tok). cond (is_closes z) (Some behind) None) (sym e.1) ∙ bind_cond (is_closes (tok_of e.0)) behind ∙ ap (λ (p : Option (Unit {0})). bind p (λ _. Some behind)) (is e.0 o e.2) ∙ bind_tt o behind) X r Y h
+
+-- a number
+module _ (v : Verb) (got : List Arg) (κs : List Kind) (k : Open) (X : Reader) (r : Result ℕ ReaderFault) (Y : Reader) where
+  pub number_on : PicksFrom (natural_of 0 2147483647) (ahead X) r Y → GoesOn (arguing v got (a_number ∷ κs) k) X r (λ n. arguing v (got ++ nat n ∷ []) κs k) Y
+  unfolding fit
+  number_on h = goes_on (arguing v got (a_number ∷ κs) k) (natural_of 0 2147483647) (λ n. arguing v (got ++ nat n ∷ []) κs k) (λ t. bind_bind nat (natural_of 0 2147483647 t) v got κs k) X r Y h
+
+  pub cells_on : PicksFrom (natural_of 1 4096) (ahead X) r Y → GoesOn (arguing v got (a_cell_count ∷ κs) k) X r (λ n. arguing v (got ++ nat n ∷ []) κs k) Y
+  unfolding fit
+  cells_on h = goes_on (arguing v got (a_cell_count ∷ κs) k) (natural_of 1 4096) (λ n. arguing v (got ++ nat n ∷ []) κs k) (λ t. bind_bind nat (natural_of 1 4096 t) v got κs k) X r Y h
 
 -- the head of a form
 head_verb : (k : Open) (b : Bool) (v : Verb) → bind (cond b (Some (Some v)) None) (λ h. Some (headed k h)) ≡ cond b (Some (arguing v [] (kinds v) k)) None

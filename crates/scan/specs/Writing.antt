@@ -48,9 +48,13 @@ displayed_as (step.Collect n) = said_of (step.Collect n)
 abbrev pub displayed : Step → List ℕ
 displayed s = written_call (displayed_as s) []
 
+-- What `{}` writes of a place: LINE COLUMN
+abbrev pub place : Spot → List ℕ
+place at = decimal at.line ++ (codes " " ++ decimal at.column)
+
 -- What `{}` writes of a fault: (no 18 reader LINE COLUMN)
 abbrev pub refusal : List ℕ → Spot → List ℕ
-refusal number at = codes "(no " ++ (number ++ (codes " reader " ++ (decimal at.line ++ (codes " " ++ (decimal at.column ++ codes ")")))))
+refusal number at = codes "(no " ++ (number ++ (codes " reader " ++ (place at ++ codes ")")))
 
 abbrev pub fault_text : ReaderFault → List ℕ
 fault_text (fault.NoToken at) = refusal (codes "18") at

@@ -1,62 +1,36 @@
 // Reads words and arguments.
-ghost use Rattle.std.specs.Prelude.{◌≡◌, ◌<◌, true, List, [], ◌∷◌, IfOk};
+ghost use Rattle.std.specs.Prelude.{◌≡◌, ◌<◌, true, List, [], IfOk, replicate};
 ghost use Rattle.scan.specs.declared.types.Verb.{Verb};
 ghost use Rattle.scan.specs.declared.types.Verb.TheVariants as verb;
-ghost use Rattle.scan.specs.Words.{layout_of, natural_of, signed_of, word_of, text_of, bind, Arg, a_number, kinds};
+ghost use Rattle.scan.specs.Words.{natural_of, Arg, a_number, kinds};
 ghost use Rattle.scan.specs.Forms.{Open, arguing};
-ghost use Rattle.scan.specs.Taking.{closes_of, PicksFrom, PicksFromAs, GoesOn, Shortens, Eats, ahead, left, said1, said2, said3, said_step, head_of, inside_of, outside_of, line_end_of};
+ghost use Rattle.scan.specs.Taking.{PicksBy, PicksFrom, GoesOn, Shortens, Eats, ahead, left, said_numbers, said_step, head_of, inside_of, outside_of, line_end_of};
 
 use crate::reader::Reader;
-use crate::types::{Layout, ReaderFault, Step, Verb};
+use crate::types::{ReaderFault, Step, Token, Verb};
 use crate::words::{
     close_of, head_of, inside_of, layout_of, line_end_of, natural_of, outside_of, signed_of,
     text_of,
 };
 
 impl<'a> Reader<'a> {
+    // What a function takes the next token for, or the fault there.
+    fn pick<T, F: FnOnce(Token<'a>) -> Option<T>>(&mut self, take: F) -> Result<T, ReaderFault>
+        requires { F.IsAlwaysCallable take }
+        ensures picks { PicksBy (F.post take) (ahead self.old) result self.new }
+        ensures shorter { Shortens result self.old self.new }
+        ensures eats { Eats result self.old self.new }
+    {
+        let t = self.token()?;
+        take(t.token).ok_or(ReaderFault::Unfit(t.at))
+    }
+
     // A number without a minus, from `low` to `high`.
     pub fn natural(&mut self, low: u32, high: u32) -> Result<u32, ReaderFault>
         ensures picks { PicksFrom (natural_of low high) (ahead self.old) result self.new }
         ensures shorter { Shortens result self.old self.new }
     {
-        let t = self.token()?;
-        natural_of(t.token, low, high).ok_or(ReaderFault::Unfit(t.at))
-    }
-
-    // A number with or without a minus.
-    fn signed(&mut self) -> Result<i32, ReaderFault>
-        ensures picks { PicksFrom signed_of (ahead self.old) result self.new }
-        ensures shorter { Shortens result self.old self.new }
-    {
-        let t = self.token()?;
-        signed_of(t.token).ok_or(ReaderFault::Unfit(t.at))
-    }
-
-    // A text.
-    fn text(&mut self) -> Result<&'a [u8], ReaderFault>
-        ensures picks { PicksFromAs (λ x. x.now) text_of (ahead self.old) result self.new }
-        ensures shorter { Shortens result self.old self.new }
-    {
-        let t = self.token()?;
-        text_of(t.token).ok_or(ReaderFault::Unfit(t.at))
-    }
-
-    // The name of a layout.
-    fn layout(&mut self) -> Result<Layout, ReaderFault>
-        ensures picks { PicksFrom (λ t. bind (word_of t) layout_of) (ahead self.old) result self.new }
-        ensures shorter { Shortens result self.old self.new }
-    {
-        let t = self.token()?;
-        layout_of(t.token).ok_or(ReaderFault::Unfit(t.at))
-    }
-
-    // The closing bracket.
-    fn close(&mut self) -> Result<(), ReaderFault>
-        ensures picks { PicksFrom closes_of (ahead self.old) result self.new }
-        ensures shorter { Shortens result self.old self.new }
-    {
-        let t = self.token()?;
-        close_of(t.token).ok_or(ReaderFault::Unfit(t.at))
+        self.pick(|t| natural_of(t, low, high))
     }
 
     fn argument(&mut self) -> Result<u32, ReaderFault>
@@ -66,31 +40,17 @@ impl<'a> Reader<'a> {
         self.natural(0, 2147483647)
     }
 
-    fn one(&mut self) -> Result<u32, ReaderFault>
-        ensures onward { (v : Verb) (got : List Arg) (k : Open) → GoesOn (arguing v got (a_number ∷ []) k) self.old result (said1 v got k) self.new }
+    // Numbers, and the closing bracket.
+    fn arguments<const N: usize>(&mut self) -> Result<[u32; N], ReaderFault>
+        ensures onward { (v : Verb) (got : List Arg) (k : Open) → GoesOn (arguing v got (replicate N a_number) k) self.old result (said_numbers v got k) self.new }
         ensures shorter { Shortens result self.old self.new }
     {
-        let a = self.argument()?;
-        self.close()?;
-        Ok(a)
-    }
-
-    fn two(&mut self) -> Result<(u32, u32), ReaderFault>
-        ensures onward { (v : Verb) (got : List Arg) (k : Open) → GoesOn (arguing v got (a_number ∷ a_number ∷ []) k) self.old result (said2 v got k) self.new }
-        ensures shorter { Shortens result self.old self.new }
-    {
-        let a = self.argument()?;
-        let b = self.one()?;
-        Ok((a, b))
-    }
-
-    fn three(&mut self) -> Result<(u32, u32, u32), ReaderFault>
-        ensures onward { (v : Verb) (got : List Arg) (k : Open) → GoesOn (arguing v got (a_number ∷ a_number ∷ a_number ∷ []) k) self.old result (said3 v got k) self.new }
-        ensures shorter { Shortens result self.old self.new }
-    {
-        let a = self.argument()?;
-        let (b, c) = self.two()?;
-        Ok((a, b, c))
+        let mut numbers = [0; N];
+        for number in &mut numbers {
+            *number = self.argument()?;
+        }
+        self.pick(close_of)?;
+        Ok(numbers)
     }
 
     // The arguments of `open`.
@@ -98,9 +58,9 @@ impl<'a> Reader<'a> {
         ensures onward { (k : Open) → GoesOn (arguing verb.Open [] (kinds verb.Open) k) self.old result (said_step k) self.new }
         ensures shorter { Shortens result self.old self.new }
     {
-        let layout = self.layout()?;
+        let layout = self.pick(layout_of)?;
         let cells = self.natural(1, 4096)?;
-        let bins = self.one()?;
+        let [bins] = self.arguments::<1>()?;
         Ok(Step::Open(layout, cells, bins))
     }
 
@@ -109,8 +69,8 @@ impl<'a> Reader<'a> {
         ensures shorter { Shortens result self.old self.new }
     {
         let r = self.argument()?;
-        let i = self.signed()?;
-        self.close()?;
+        let i = self.pick(signed_of)?;
+        self.pick(close_of)?;
         Ok(Step::Number(r, i))
     }
 
@@ -119,8 +79,8 @@ impl<'a> Reader<'a> {
         ensures shorter { Shortens result self.old self.new }
     {
         let r = self.argument()?;
-        let text = self.text()?;
-        self.close()?;
+        let text = self.pick(text_of)?;
+        self.pick(close_of)?;
         Ok(Step::Text(r, text))
     }
 
@@ -133,36 +93,36 @@ impl<'a> Reader<'a> {
             Verb::Open => self.opening(),
             Verb::Number => self.number(),
             Verb::Text => self.entering(),
-            Verb::Null => Ok(Step::Null(self.one()?)),
-            Verb::Kind => Ok(Step::Kind(self.one()?)),
-            Verb::Read => Ok(Step::Read(self.one()?)),
-            Verb::Collect => Ok(Step::Collect(self.one()?)),
+            Verb::Null => Ok(Step::Null(self.arguments::<1>()?[0])),
+            Verb::Kind => Ok(Step::Kind(self.arguments::<1>()?[0])),
+            Verb::Read => Ok(Step::Read(self.arguments::<1>()?[0])),
+            Verb::Collect => Ok(Step::Collect(self.arguments::<1>()?[0])),
             Verb::Copy => {
-                let (r, s) = self.two()?;
+                let [r, s] = self.arguments::<2>()?;
                 Ok(Step::Copy(r, s))
             }
             Verb::Fetch => {
-                let (r, s) = self.two()?;
+                let [r, s] = self.arguments::<2>()?;
                 Ok(Step::Fetch(r, s))
             }
             Verb::Store => {
-                let (r, s) = self.two()?;
+                let [r, s] = self.arguments::<2>()?;
                 Ok(Step::Store(r, s))
             }
             Verb::Same => {
-                let (r, s) = self.two()?;
+                let [r, s] = self.arguments::<2>()?;
                 Ok(Step::Same(r, s))
             }
             Verb::Make => {
-                let (r, n, t) = self.three()?;
+                let [r, n, t] = self.arguments::<3>()?;
                 Ok(Step::Make(r, n, t))
             }
             Verb::Name => {
-                let (r, s, k) = self.three()?;
+                let [r, s, k] = self.arguments::<3>()?;
                 Ok(Step::Name(r, s, k))
             }
             Verb::Divide => {
-                let (r, s, q) = self.three()?;
+                let [r, s, q] = self.arguments::<3>()?;
                 Ok(Step::Divide(r, s, q))
             }
         }
@@ -173,8 +133,7 @@ impl<'a> Reader<'a> {
         ensures picks { PicksFrom (head_of first) (ahead self.old) result self.new }
         ensures shorter { Shortens result self.old self.new }
     {
-        let t = self.token()?;
-        head_of(t.token, first).ok_or(ReaderFault::Unfit(t.at))
+        self.pick(|t| head_of(t, first))
     }
 
     // Inside a `times`: whether a bracket opens or closes.
@@ -184,8 +143,7 @@ impl<'a> Reader<'a> {
         ensures eats { IfOk result (λ b. (b ≡ true → left self.new < left self.old)) }
         ensures may { IfOk result (λ b. (b ≡ true → may_open ≡ true)) }
     {
-        let t = self.token()?;
-        inside_of(t.token, may_open, may_close).ok_or(ReaderFault::Unfit(t.at))
+        self.pick(|t| inside_of(t, may_open, may_close))
     }
 
     // Where a line begins: whether a bracket opens or the line ends.
@@ -194,8 +152,7 @@ impl<'a> Reader<'a> {
         ensures shorter { Shortens result self.old self.new }
         ensures eats { Eats result self.old self.new }
     {
-        let t = self.token()?;
-        outside_of(t.token).ok_or(ReaderFault::Unfit(t.at))
+        self.pick(outside_of)
     }
 
     // The end of a line.
@@ -203,7 +160,6 @@ impl<'a> Reader<'a> {
         ensures picks { PicksFrom line_end_of (ahead self.old) result self.new }
         ensures shorter { Shortens result self.old self.new }
     {
-        let t = self.token()?;
-        line_end_of(t.token).ok_or(ReaderFault::Unfit(t.at))
+        self.pick(line_end_of)
     }
 }

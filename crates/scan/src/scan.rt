@@ -1,142 +1,84 @@
 // Splits one token after another off a script.
-ghost use Rattle.std.specs.Prelude.{◌≡◌, ◌+◌, ◌<◌, ◌≤◌, [], ◌∷◌, length, take, drop, MatchOption, ◌==◌};
-ghost use Rattle.std.specs.List.{prefix_len};
-ghost use Rattle.scan.specs.Tokens.{parting, digit, letter, value, digits, wordly, run_token, plain_run, next_here, closed};
-ghost use Rattle.scan.specs.Taking.{member, Classified, TakesFrom, Shortens, Eats, ahead};
+ghost use Rattle.std.specs.Prelude.{◌≡◌, ◌+◌, ◌^◌, ◌≤◌, ◌&&◌, Some, None, cond, nat_le, length, take, drop, MatchOption, ◌==◌};
+ghost use Rattle.scan.specs.Tokens.{parting, printable, value, digits, wordly, plain_run, run_token, next_here, closed};
+ghost use Rattle.scan.specs.Taking.{Classified, FindsHere, TakesFrom, Shortens, Eats, ahead};
 
 use crate::reader::Reader;
-use crate::types::{Class, Placed, ReaderFault, Spot, Token};
-
-// The first byte, and the rest.
-fn split_first<'a>(bytes: &'a [u8]) -> Option<(u8, &'a [u8])>
-    ensures { MatchOption result (bytes.now ≡ []) (λ p. bytes.now ≡ p.0 ∷ p.1.now) }
-{
-    match bytes {
-        [] => None,
-        [first, rest @ ..] => Some((*first, rest)),
-    }
-}
+use crate::types::{Placed, ReaderFault, Spot, Token};
 
 // A space, a line's end or a bracket: what a word, a number or a text ends before.
 fn parts(b: u8) -> bool
     ensures { result ≡ parting b }
 {
-    b == b' ' || b == b'\n' || b == b'(' || b == b')'
+    matches!(b, b' ' | b'\n' | b'(' | b')')
 }
 
-fn is_digit(b: u8) -> bool
-    ensures { result ≡ digit b }
+// What may stand in a text.
+fn is_printable(b: u8) -> bool
+    ensures { result ≡ printable b }
 {
-    b >= b'0' && b <= b'9'
+    matches!(b, b' '..=b'~') && b != b'"'
 }
 
-fn is_letter(b: u8) -> bool
-    ensures { result ≡ letter b }
+// The number that digits write, where 32 bits hold it.
+fn value_of(digits: &[u8]) -> Option<u32>
+    ensures { MatchOption result (2 ^ 32 ≤ value digits.now) (λ n. n ≡ value digits.now) }
 {
-    (b >= b'a' && b <= b'z') || (b >= b'A' && b <= b'Z')
-}
-
-fn belongs(class: Class, b: u8) -> bool
-    ensures { result ≡ member class b }
-{
-    match class {
-        Class::Space => b == b' ',
-        Class::Unparted => !parts(b),
-        Class::Digit => is_digit(b),
-        Class::WordByte => is_letter(b) || is_digit(b),
-        Class::Printable => b >= 32 && b <= 126 && b != b'"',
+    let mut value: u32 = 0;
+    for d in digits {
+        value = value
+            .checked_mul(10)?
+            .checked_add(u32::from(d.saturating_sub(b'0')))?;
     }
-}
-
-// How many bytes of a class stand at the front.
-fn front(bytes: &[u8], class: Class) -> usize
-    ensures { result ≡ prefix_len (member class) bytes.now }
-{
-    for (i, b) in bytes.iter().enumerate() {
-        if !belongs(class, *b) {
-            return i;
-        }
-    }
-    bytes.len()
-}
-
-// The number that digits write, or 2^31 + 1 where it is above 2^31.
-fn value_of(bytes: &[u8]) -> u32
-    ensures small { value bytes.now ≤ 2147483648 → result ≡ value bytes.now }
-    ensures large { 2147483648 < value bytes.now → result ≡ 2147483649 }
-{
-    let mut size: u64 = 0;
-    for d in bytes {
-        size = (10 * size + u64::from(*d).saturating_sub(48)).min(2147483649);
-    }
-    size as u32
+    Some(value)
 }
 
 fn are_digits(bytes: &[u8]) -> bool
     ensures { result ≡ digits bytes.now }
 {
-    bytes.len() > 0 && front(bytes, Class::Digit) == bytes.len()
+    !bytes.is_empty() && bytes.iter().all(u8::is_ascii_digit)
 }
 
 fn is_word(bytes: &[u8]) -> bool
     ensures { result ≡ wordly bytes.now }
 {
-    match split_first(bytes) {
-        None => false,
-        Some((first, _)) => is_letter(first) && front(bytes, Class::WordByte) == bytes.len(),
+    match bytes {
+        [first, rest @ ..] => {
+            first.is_ascii_alphabetic() && rest.iter().all(u8::is_ascii_alphanumeric)
+        }
+        [] => false,
     }
 }
 
-fn plain<'a>(run: &'a [u8]) -> Option<Token<'a>>
-    ensures { Classified result (plain_run run.now) }
+// The number that the bytes write, where they are digits and it is at most so much.
+fn number(bytes: &[u8], most: u32) -> Option<u32>
+    ensures { result ≡ cond (digits bytes.now && nat_le (value bytes.now) most) (Some (value bytes.now)) None }
 {
-    if are_digits(run) {
-        let size = value_of(run);
-        if size > 2147483647 {
-            return None;
-        }
-        return Some(Token::Number { minus: false, size });
+    if !are_digits(bytes) {
+        return None;
     }
-    if is_word(run) {
-        Some(Token::Word(run))
-    } else {
-        None
-    }
+    value_of(bytes).filter(|n| *n <= most)
 }
 
 // The token that a run of bytes without a space or a bracket is.
 fn classify<'a>(run: &'a [u8]) -> Option<Token<'a>>
     ensures { Classified result (run_token run.now) }
 {
-    let Some((first, rest)) = split_first(run) else {
-        return None;
-    };
-    if first != b'-' {
-        return plain(run);
+    match run {
+        [b'-', digits @ ..] => Some(Token::Negative(number(digits, i32::MIN.unsigned_abs())?)),
+        _ if is_word(run) => Some(Token::Word(run)),
+        _ => Some(Token::Natural(number(run, i32::MAX.unsigned_abs())?)),
     }
-    if !are_digits(rest) {
-        return None;
-    }
-    let size = value_of(rest);
-    if size > 2147483648 {
-        return None;
-    }
-    Some(Token::Number { minus: true, size })
 }
 
 // Whether a text of `n` bytes is closed there, and parted from the next token.
 fn is_closed(bytes: &[u8], n: usize) -> bool
     ensures { result ≡ closed n bytes.now }
 {
-    if n >= bytes.len() {
-        return false;
-    }
-    if bytes[n] != b'"' {
-        return false;
-    }
-    match split_first(&bytes[n + 1..]) {
-        None => true,
-        Some((after, _)) => parts(after),
+    match bytes.get(n..) {
+        Some([b'"']) => true,
+        Some([b'"', after, ..]) => parts(*after),
+        _ => false,
     }
 }
 
@@ -149,8 +91,7 @@ impl<'a> Reader<'a> {
         ensures line { self.new.line ≡ self.old.line }
         ensures column { self.new.column ≡ self.old.column + n }
     {
-        let all = self.rest;
-        let (part, rest) = all.split_at(n);
+        let (part, rest) = self.rest.split_at(n);
         self.rest = rest;
         self.column += n as u32;
         part
@@ -164,69 +105,41 @@ impl<'a> Reader<'a> {
         ensures line { self.new.line ≡ self.old.line }
         ensures column { self.new.column ≡ self.old.column + (n + 2) }
     {
-        let all = self.rest;
-        let (_, behind) = all.split_at(1);
-        let (text, _) = behind.split_at(n);
-        self.split_off(n + 2);
-        text
+        let quoted = self.split_off(n + 2);
+        &quoted[1..n + 1]
     }
 
-    // The token that begins here.
-    fn token_here(&mut self) -> Result<Placed<'a>, ReaderFault>
-        ensures { TakesFrom (next_here self.old.line self.old.column self.old.rest.now) result self.new }
+    // The token that begins here, where one can be read.
+    fn token_here(&mut self) -> Option<Token<'a>>
+        ensures { FindsHere (next_here self.old.line self.old.column self.old.rest.now) result self.new }
     {
-        let at = Spot {
-            line: self.line,
-            column: self.column,
-        };
-        let Some((first, rest)) = split_first(self.rest) else {
-            return Ok(Placed {
-                at,
-                token: Token::LineEnd,
-            });
-        };
-        match first {
-            b'\n' => {
+        match self.rest {
+            [] => Some(Token::LineEnd),
+            [b'\n', rest @ ..] => {
                 self.rest = rest;
                 self.line += 1;
                 self.column = 1;
-                Ok(Placed {
-                    at,
-                    token: Token::LineEnd,
-                })
+                Some(Token::LineEnd)
             }
-            b'(' => {
+            [b'(', ..] => {
                 self.split_off(1);
-                Ok(Placed {
-                    at,
-                    token: Token::Open,
-                })
+                Some(Token::Open)
             }
-            b')' => {
+            [b')', ..] => {
                 self.split_off(1);
-                Ok(Placed {
-                    at,
-                    token: Token::Close,
-                })
+                Some(Token::Close)
             }
-            b'"' => {
-                let n = front(rest, Class::Printable);
-                if !is_closed(rest, n) {
-                    return Err(ReaderFault::NoToken(at));
+            [b'"', rest @ ..] => {
+                let n = rest.iter().take_while(|b| is_printable(**b)).count();
+                if is_closed(rest, n) {
+                    Some(Token::Text(self.split_text(n)))
+                } else {
+                    None
                 }
-                let text = self.split_text(n);
-                Ok(Placed {
-                    at,
-                    token: Token::Text(text),
-                })
             }
-            _ => {
-                let n = front(self.rest, Class::Unparted);
-                let run = self.split_off(n);
-                match classify(run) {
-                    Some(token) => Ok(Placed { at, token }),
-                    None => Err(ReaderFault::NoToken(at)),
-                }
+            run => {
+                let n = run.iter().take_while(|b| !parts(**b)).count();
+                classify(self.split_off(n))
             }
         }
     }
@@ -237,9 +150,14 @@ impl<'a> Reader<'a> {
         ensures shorter { Shortens result self.old self.new }
         ensures eats { Eats result self.old self.new }
     {
-        let n = front(self.rest, Class::Space);
-        self.split_off(n);
-        self.token_here()
+        let spaces = self.rest.iter().take_while(|b| **b == b' ').count();
+        self.split_off(spaces);
+        let at = Spot {
+            line: self.line,
+            column: self.column,
+        };
+        let token = self.token_here().ok_or(ReaderFault::NoToken(at))?;
+        Ok(Placed { at, token })
     }
 
     pub fn is_done(&self) -> bool

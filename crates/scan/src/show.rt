@@ -1,10 +1,10 @@
 // How steps and faults are displayed.
 ghost use Rattle.std.proofs.Math.Utf8.{encodes};
 ghost use Rattle.std.specs.Prelude.{Some};
-ghost use Rattle.scan.specs.Writing.{quoted, displayed, fault_text};
+ghost use Rattle.scan.specs.Writing.{quoted, displayed, place, fault_text};
 ghost use Rattle.scan.specs.Words.{layout_name};
 
-use crate::types::{Layout, ReaderFault, Step};
+use crate::types::{Layout, ReaderFault, Spot, Step};
 use std::fmt;
 
 impl fmt::Display for Layout {
@@ -44,10 +44,7 @@ impl fmt::Display for Step<'_> {
             Step::Number(r, i) => write!(f, "(number {r} {i})"),
             Step::Copy(r, s) => write!(f, "(copy {r} {s})"),
             Step::Make(r, n, t) => write!(f, "(make {r} {n} {t})"),
-            Step::Text(r, text) => {
-                let quoted = Quoted(text);
-                write!(f, "(text {r} {quoted})")
-            }
+            Step::Text(r, text) => write!(f, "(text {r} {})", Quoted(text)),
             Step::Name(r, s, k) => write!(f, "(name {r} {s} {k})"),
             Step::Fetch(r, s) => write!(f, "(fetch {r} {s})"),
             Step::Store(r, s) => write!(f, "(store {r} {s})"),
@@ -60,21 +57,21 @@ impl fmt::Display for Step<'_> {
     }
 }
 
+impl fmt::Display for Spot {
+    ghost output = { λ at. Some (place at) };
+
+    fn fmt<W: fmt::Write>(&self, f: &mut fmt::Formatter<W>) -> fmt::Result {
+        write!(f, "{} {}", self.line, self.column)
+    }
+}
+
 impl fmt::Display for ReaderFault {
     ghost output = { λ e. Some (fault_text e) };
 
     fn fmt<W: fmt::Write>(&self, f: &mut fmt::Formatter<W>) -> fmt::Result {
         match *self {
-            ReaderFault::NoToken(at) => {
-                let line = at.line;
-                let column = at.column;
-                write!(f, "(no 18 reader {line} {column})")
-            }
-            ReaderFault::Unfit(at) => {
-                let line = at.line;
-                let column = at.column;
-                write!(f, "(no 19 reader {line} {column})")
-            }
+            ReaderFault::NoToken(at) => write!(f, "(no 18 reader {at})"),
+            ReaderFault::Unfit(at) => write!(f, "(no 19 reader {at})"),
             ReaderFault::TooLong => write!(f, "(no 20 reader 0 0)"),
             ReaderFault::Memory => write!(f, "(no memory)"),
         }

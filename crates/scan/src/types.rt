@@ -11,22 +11,13 @@ pub struct Spot {
     pub column: u32,
 }
 
-// Sorts of bytes that stand in a row.
-#[derive(Clone, Copy)]
-pub enum Class {
-    Space,
-    Unparted,
-    Digit,
-    WordByte,
-    Printable,
-}
-
-// One token. A word and a text are parts of the script.
+// One token. `Negative` is a number behind a minus; a word and a text are parts of the script.
 #[derive(Clone, Copy)]
 pub enum Token<'a> {
     Open,
     Close,
-    Number { minus: bool, size: u32 },
+    Natural(u32),
+    Negative(u32),
     Word(&'a [u8]),
     Text(&'a [u8]),
     LineEnd,

@@ -1,84 +1,48 @@
 // What a token may be taken for: words, arguments, brackets and the end of a line.
 ghost use Rattle.std.specs.Prelude.{◌≡◌};
-ghost use Rattle.scan.specs.Words.{verb_of, layout_of, natural_of, signed_of, word_of, text_of, is_open, bind};
-ghost use Rattle.scan.specs.Taking.{tok_of, closes_of, head_word, head_of, inside_of, outside_of, line_end_of};
+ghost use Rattle.scan.specs.Words.{verb_of, layout_of, natural_of, signed_of, word_of, text_of, bind};
+ghost use Rattle.scan.specs.Taking.{tok_of, closes_of, head_of, inside_of, outside_of, line_end_of};
 ghost use Rattle.std.specs.Option.{option_map};
-ghost use Rattle.std.specs.Str.{bytes_eq};
 
 use crate::types::{Layout, Token, Verb};
-
-// Whether a word is spelled so.
-fn is(word: &[u8], name: &[u8]) -> bool
-    ensures { result ≡ bytes_eq word.now name.now }
-{
-    word == name
-}
 
 fn verb(word: &[u8]) -> Option<Verb>
     ensures { result ≡ verb_of word.now }
 {
-    if is(word, b"open") {
-        Some(Verb::Open)
-    } else if is(word, b"null") {
-        Some(Verb::Null)
-    } else if is(word, b"number") {
-        Some(Verb::Number)
-    } else if is(word, b"copy") {
-        Some(Verb::Copy)
-    } else if is(word, b"make") {
-        Some(Verb::Make)
-    } else if is(word, b"text") {
-        Some(Verb::Text)
-    } else if is(word, b"name") {
-        Some(Verb::Name)
-    } else if is(word, b"fetch") {
-        Some(Verb::Fetch)
-    } else if is(word, b"store") {
-        Some(Verb::Store)
-    } else if is(word, b"divide") {
-        Some(Verb::Divide)
-    } else if is(word, b"kind") {
-        Some(Verb::Kind)
-    } else if is(word, b"read") {
-        Some(Verb::Read)
-    } else if is(word, b"same") {
-        Some(Verb::Same)
-    } else if is(word, b"collect") {
-        Some(Verb::Collect)
-    } else {
-        None
+    match word {
+        b"open" => Some(Verb::Open),
+        b"null" => Some(Verb::Null),
+        b"number" => Some(Verb::Number),
+        b"copy" => Some(Verb::Copy),
+        b"make" => Some(Verb::Make),
+        b"text" => Some(Verb::Text),
+        b"name" => Some(Verb::Name),
+        b"fetch" => Some(Verb::Fetch),
+        b"store" => Some(Verb::Store),
+        b"divide" => Some(Verb::Divide),
+        b"kind" => Some(Verb::Kind),
+        b"read" => Some(Verb::Read),
+        b"same" => Some(Verb::Same),
+        b"collect" => Some(Verb::Collect),
+        _ => None,
     }
 }
 
 fn layout(word: &[u8]) -> Option<Layout>
     ensures { result ≡ layout_of word.now }
 {
-    if is(word, b"byte8") {
-        Some(Layout::Byte8)
-    } else if is(word, b"sixbit") {
-        Some(Layout::Sixbit)
-    } else {
-        None
+    match word {
+        b"byte8" => Some(Layout::Byte8),
+        b"sixbit" => Some(Layout::Sixbit),
+        _ => None,
     }
-}
-
-fn is_open(v: Verb) -> bool
-    ensures { result ≡ is_open v }
-{
-    matches!(v, Verb::Open)
 }
 
 pub(crate) fn natural_of<'a>(t: Token<'a>, low: u32, high: u32) -> Option<u32>
     ensures { result ≡ natural_of low high (tok_of t.entry) }
 {
     match t {
-        Token::Number { minus: false, size } => {
-            if size < low || size > high {
-                None
-            } else {
-                Some(size)
-            }
-        }
+        Token::Natural(n) if (low..=high).contains(&n) => Some(n),
         _ => None,
     }
 }
@@ -87,20 +51,8 @@ pub(crate) fn signed_of<'a>(t: Token<'a>) -> Option<i32>
     ensures { result ≡ signed_of (tok_of t.entry) }
 {
     match t {
-        Token::Number { minus: true, size } => {
-            if size <= 2147483648 {
-                Some((-i64::from(size)) as i32)
-            } else {
-                None
-            }
-        }
-        Token::Number { minus: false, size } => {
-            if size <= 2147483647 {
-                Some(size as i32)
-            } else {
-                None
-            }
-        }
+        Token::Natural(n) => i32::try_from(n).ok(),
+        Token::Negative(n) => i32::try_from(-i64::from(n)).ok(),
         _ => None,
     }
 }
@@ -126,34 +78,19 @@ pub(crate) fn text_of<'a>(t: Token<'a>) -> Option<&'a [u8]>
 pub(crate) fn close_of<'a>(t: Token<'a>) -> Option<()>
     ensures { result ≡ closes_of (tok_of t.entry) }
 {
-    match t {
-        Token::Close => Some(()),
-        _ => None,
-    }
+    matches!(t, Token::Close).then_some(())
 }
 
 // What stands behind a form's bracket: a call's word, or none for `times`.
-fn head_word(word: &[u8], first: bool) -> Option<Option<Verb>>
-    ensures { result ≡ head_word first word.now }
-{
-    if is(word, b"times") {
-        return if first { None } else { Some(None) };
-    }
-    match verb(word) {
-        Some(v) => if first == is_open(v) {
-            Some(Some(v))
-        } else {
-            None
-        },
-        None => None,
-    }
-}
-
 pub(crate) fn head_of<'a>(t: Token<'a>, first: bool) -> Option<Option<Verb>>
     ensures { result ≡ head_of first (tok_of t.entry) }
 {
     match t {
-        Token::Word(word) => head_word(word, first),
+        Token::Word(b"times") => if first { None } else { Some(None) },
+        Token::Word(word) => match verb(word) {
+            Some(v) if first == matches!(v, Verb::Open) => Some(Some(v)),
+            _ => None,
+        },
         _ => None,
     }
 }
@@ -163,8 +100,8 @@ pub(crate) fn inside_of<'a>(t: Token<'a>, may_open: bool, may_close: bool) -> Op
     ensures { result ≡ inside_of may_open may_close (tok_of t.entry) }
 {
     match t {
-        Token::Open => if may_open { Some(true) } else { None },
-        Token::Close => if may_close { Some(false) } else { None },
+        Token::Open if may_open => Some(true),
+        Token::Close if may_close => Some(false),
         _ => None,
     }
 }
@@ -183,8 +120,5 @@ pub(crate) fn outside_of<'a>(t: Token<'a>) -> Option<bool>
 pub(crate) fn line_end_of<'a>(t: Token<'a>) -> Option<()>
     ensures { result ≡ line_end_of (tok_of t.entry) }
 {
-    match t {
-        Token::LineEnd => Some(()),
-        _ => None,
-    }
+    matches!(t, Token::LineEnd).then_some(())
 }

@@ -19,7 +19,7 @@ module _ (script : List ℕ) where
   same_steps ss ts v w = let e : done ss ≡ done ts = same_whole _ _ v w in cc
 
   not_both : {P : Type 0} (ss : List Said) (f : ReaderFault) → Whole script (done ss) → Whole script (refused f) → P
-  not_both ss f v w = let e : done ss ≡ refused f = same_whole _ _ v w in let z : ◌≡◌ {A = ℕ} 0 1 = cc in absurd (omega arith)
+  not_both ss f v w = let e : done ss ≡ refused f = same_whole _ _ v w in absurd cc
 
   pub comes_once : (o p : Outcome) → Comes script o → Comes script p → o ≡ p
   comes_once o p (too_many_bytes h) (too_many_bytes k) = refl
@@ -57,7 +57,7 @@ module _ (script : List ℕ) (fs : Forms) (law : Lawful fs) (e : script ≡ writ
   comes_written = subst (λ (z : List ℕ). Comes z (done (steps_of fs))) (sym e) (steps law.bytes (written_whole fs law.forms) law.steps)
 
   not_refused : {P : Type 0} (f : ReaderFault) → Comes script (refused f) → P
-  not_refused f k = let z : done (steps_of fs) ≡ refused f = comes_once script _ _ comes_written k in let y : ◌≡◌ {A = ℕ} 0 1 = cc in absurd (omega arith)
+  not_refused f k = let z : done (steps_of fs) ≡ refused f = comes_once script _ _ comes_written k in absurd cc
 
   only_memory : (f : ReaderFault) → Refusal script f → f ≡ fault.Memory
   only_memory (fault.NoToken at) k = not_refused _ k

@@ -167,7 +167,7 @@ some_copies zero ss h k = absurd (omega arith)
 some_copies (suc n) ss h k = omega (arith, length-append ss (copies n ss))
 
 some_steps : (d : ℕ) (fs : Forms) → Inner d fs → some fs ≡ true → 1 ≤ length (steps_of fs)
-some_steps d end h e = let z : ◌≡◌ {A = ℕ} 0 1 = cc in absurd (omega arith)
+some_steps d end h e = absurd cc
 some_steps d (w.call s more) h e = omega arith
 some_steps d (w.times n fs more) h e = omega (arith, length-append (copies n (steps_of fs)) (steps_of more), some_copies n (steps_of fs) h.1 (some_steps (d - 1) fs h.4 h.3))
 

@@ -102,7 +102,7 @@ gives_run b bs ys u q h l c =
     (ap (λ (g : Next). g.tok) e ∙ ap run_token (take_at w ys (length w) refl), ap (λ (g : Next). g.rest) e ∙ drop_at w ys (length w) refl)
 
 pub gives_bytes : (w ys : List ℕ) → ltb 0 (length w) ≡ true → every unparted w ≡ true → eqb (get_or w 0 0) 34 ≡ false → parted ys ≡ true → Gives (w ++ ys) (run_token w) ys
-gives_bytes [] ys some u q h = let z : ◌≡◌ {A = ℕ} 0 1 = cc in absurd (omega arith)
+gives_bytes [] ys some u q h = absurd cc
 gives_bytes (b ∷ bs) ys some u q h = gives_run b bs ys u q h
 
 -- Numbers

@@ -1,76 +1,86 @@
 -- The flat list of steps, and what forms and lines add to it.
-use Rattle.std.specs.Prelude.{◌≡◌, ℕ, ◌+◌, ◌<◌, ◌≤◌, Bool, true, false, not, ◌≢◌, ◌⊎◌, List, [], ◌++◌, map, length, Ok, Err, vec_items, Result}
-use Rattle.scan.specs.declared.reader.Reader.{Reader}
-use Rattle.scan.specs.declared.types.Step.{Step}
+use Rattle.std.specs.Prelude.{◌≡◌, ℕ, ◌+◌, ◌-◌, ◌≤◌, Bool, true, false, cond, not, ◌≢◌, List, [], ◌∷◌, ◌++◌, length, take, drop, Some, None, Ok, Err, Option, Result, nat_le}
 use Rattle.scan.specs.declared.types.ReaderFault.{ReaderFault}
 use Rattle.scan.specs.declared.types.ReaderFault.TheVariants as fault
 use Rattle.script.specs.declared.plan.Plan.{Plan}
-use Rattle.scan.specs.Words.{Said, said_of}
-use Rattle.scan.specs.Forms.{copies, Open, bottom, times, State, depth, first, add, start, opened, ended, Outcome, refused, Reads}
-use Rattle.scan.specs.Taking.{some, left}
+use Rattle.script.specs.declared.forms.Expander.{Expander}
+use Rattle.scan.specs.Words.{bind, Said}
+use Rattle.scan.specs.Forms.{copies, Open, bottom, times, depth, first, add, start, opened, ended, Outcome, refused}
+use Rattle.script.specs.Scripts.{Whole}
+use Rattle.scan.specs.Taking.{some, left, ReadsAt, LeadsAt}
 
--- what the reading comes to from a state, where a reader stands
-abbrev pub ReadsAt : State → Reader → Outcome → Type 0
-ReadsAt s X o = Reads s X.line X.column X.rest.now o
+-- A plan is seen as what its steps say; none where there were too many.
 
--- from where one reader stands the reading comes to what it comes to from another state and reader
-abbrev pub LeadsAt : State → Reader → State → Reader → Type 0
-LeadsAt s X u Y = (o : Outcome) → ReadsAt u Y o → ReadsAt s X o
-
--- these steps are all of what was said, or there were too many
-abbrev pub Kept : Bool → List Step → List Said → Type 0
-Kept false items full = (map said_of items ≡ full) × (length full ≤ 4096)
-Kept true items full = 4096 < length full
-
-abbrev pub Holds : Plan → List Said → Type 0
-Holds p full = Kept p.over (vec_items p.steps) full
+-- at most 4,096 steps
+abbrev pub limited : List Said → Option (List Said)
+limited ss = cond (nat_le (length ss) 4096) (Some ss) None
 
 -- further steps
-abbrev pub Grows : Plan → Plan → List Said → Type 0
-Grows p q more = (full : List Said) → Holds p full → Holds q (full ++ more)
+abbrev pub with_more : Option (List Said) → List Said → Option (List Said)
+with_more h [] = h
+with_more h (s ∷ more) = bind h (λ ss. limited (ss ++ s ∷ more))
 
+abbrev pub nothing : Option (List Said) → Bool
+nothing None = false
+nothing (Some ss) = not (some ss)
+
+abbrev pub size : Option (List Said) → ℕ
+size None = 0
+size (Some ss) = length ss
+
+-- the steps from one place to another
+abbrev pub part : ℕ → ℕ → Option (List Said) → List Said
+part from to None = []
+part from to (Some ss) = take (to - from) (drop from ss)
+
+-- the plan holds further steps, or memory was wanting
 abbrev pub Pushes : Result (Unit {0}) ReaderFault → Plan → Plan → List Said → Type 0
-Pushes (Ok u) p q more = Grows p q more
+Pushes (Ok u) p q more = q ≡ with_more p more
 Pushes (Err f) p q more = f ≡ fault.Memory
+
+abbrev pub Adds : Result (Unit {0}) ReaderFault → Plan → Plan → ℕ → ℕ → Type 0
+Adds r p q from to = Pushes r p q (part from to p)
 
 -- the steps from a place on, so many times
 abbrev pub Repeats : Result (Unit {0}) ReaderFault → Plan → Plan → ℕ → ℕ → Type 0
-Repeats (Ok u) p q from n = (full ss : List Said) → Holds p (full ++ ss) → (4096 < length full) ⊎ (from ≡ length full) → 1 ≤ n → Holds q (full ++ copies n ss)
-Repeats (Err f) p q from n = f ≡ fault.Memory
+Repeats r p q from n = Pushes r p q (copies (n - 1) (part from (size p) p))
+
+-- no form has been read
+abbrev pub fresh : Expander → Bool
+fresh E = nothing E.plan
 
 -- a form whose bracket has been read, with so many brackets that may stand inside
-pub record Formed (is_first : Bool) (inner : ℕ) (p q : Plan) (X Y : Reader) : Type 0 where
+pub record Formed (inner : ℕ) (E F : Expander) : Type 0 where
   pub steps : List Said
   pub any : some steps ≡ true
-  pub leads : (k : Open) → depth k + inner ≡ 15 → first k ≡ is_first → LeadsAt (opened k) X (ended (add steps k)) Y
-  pub grows : Grows p q steps
+  pub leads : (k : Open) → depth k + inner ≡ 15 → first k ≡ fresh E → LeadsAt (opened k) E.reader (ended (add steps k)) F.reader
+  pub grows : F.plan ≡ with_more E.plan steps
 
-abbrev pub ReadsForm : Result (Unit {0}) ReaderFault → Bool → ℕ → Plan → Plan → Reader → Reader → Type 0
-ReadsForm (Ok u) is_first inner p q X Y = Formed is_first inner p q X Y
-ReadsForm (Err f) is_first inner p q X Y = f ≢ fault.Memory → (k : Open) → depth k + inner ≡ 15 → first k ≡ is_first → ReadsAt (opened k) X (refused f)
+abbrev pub ReadsForm : Result (Unit {0}) ReaderFault → ℕ → Expander → Expander → Type 0
+ReadsForm (Ok u) inner E F = Formed inner E F
+ReadsForm (Err f) inner E F = f ≢ fault.Memory → (k : Open) → depth k + inner ≡ 15 → first k ≡ fresh E → ReadsAt (opened k) E.reader (refused f)
 
 -- forms inside a `times`
-pub record Filled (inner : ℕ) (empty : Bool) (p q : Plan) (X Y : Reader) : Type 0 where
+pub record Filled (inner : ℕ) (empty : Bool) (E F : Expander) : Type 0 where
   pub steps : List Said
   pub any : some steps ≡ not empty
-  pub leads : (n : ℕ) (k : Open) → depth k + inner ≡ 15 → LeadsAt (start (times n [] k)) X (start (times n steps k)) Y
-  pub grows : Grows p q steps
-  pub shorter : left Y ≤ left X
+  pub leads : (n : ℕ) (k : Open) → depth k + inner ≡ 15 → LeadsAt (start (times n [] k)) E.reader (start (times n steps k)) F.reader
+  pub grows : F.plan ≡ with_more E.plan steps
+  pub later : fresh F ≡ false
+  pub shorter : left F.reader ≤ left E.reader
 
 -- a line
-pub record Lined (before after : Bool) (p q : Plan) (X Y : Reader) : Type 0 where
+pub record Lined (E F : Expander) : Type 0 where
   pub steps : List Said
-  pub leads : (said : List Said) → first (bottom said) ≡ before → LeadsAt (start (bottom said)) X (start (bottom (said ++ steps))) Y
-  pub later : (said : List Said) → first (bottom said) ≡ before → first (bottom (said ++ steps)) ≡ after
-  pub grows : Grows p q steps
+  pub leads : (said : List Said) → first (bottom said) ≡ fresh E → LeadsAt (start (bottom said)) E.reader (start (bottom (said ++ steps))) F.reader
+  pub grows : F.plan ≡ with_more E.plan steps
 
-abbrev pub ReadsLine : Result Bool ReaderFault → Bool → Plan → Plan → Reader → Reader → Type 0
-ReadsLine (Ok after) before p q X Y = Lined before after p q X Y
-ReadsLine (Err f) before p q X Y = f ≢ fault.Memory → (said : List Said) → first (bottom said) ≡ before → ReadsAt (start (bottom said)) X (refused f)
+abbrev pub ReadsLine : Result (Unit {0}) ReaderFault → Expander → Expander → Type 0
+ReadsLine (Ok u) E F = Lined E F
+ReadsLine (Err f) E F = f ≢ fault.Memory → (said : List Said) → first (bottom said) ≡ fresh E → ReadsAt (start (bottom said)) E.reader (refused f)
 
 -- the lines of a script so far
-pub record Behind (is_first : Bool) (q : Plan) (X Y : Reader) : Type 0 where
+pub record Behind (script : List ℕ) (E : Expander) : Type 0 where
   pub said : List Said
-  pub leads : LeadsAt (start (bottom [])) X (start (bottom said)) Y
-  pub later : first (bottom said) ≡ is_first
-  pub holds : Holds q said
+  pub leads : (o : Outcome) → ReadsAt (start (bottom said)) E.reader o → Whole script o
+  pub holds : E.plan ≡ limited said

@@ -1,5 +1,5 @@
 // Reads forms, and expands what is repeated.
-ghost use Rattle.std.specs.Prelude.{◌≡◌, ◌≤◌, length, MatchResult};
+ghost use Rattle.std.specs.Prelude.{◌≡◌, MatchResult};
 ghost use Rattle.scan.specs.declared.types.ReaderFault.TheVariants.{Memory};
 ghost use Rattle.scan.specs.Taking.{Shortens, Eats};
 ghost use Rattle.script.specs.Plans.{ReadsForm, ReadsLine};
@@ -16,88 +16,49 @@ const MOST_BYTES: usize = 16384;
 // Brackets that may stand inside the outermost one.
 const INNER: u32 = 15;
 
-// A form whose bracket has been read; `inner` further brackets may stand inside it.
-fn form<'a>(
-    reader: &mut Reader<'a>,
-    plan: &mut Plan<'a>,
-    first: bool,
-    inner: u32,
-) -> Result<(), ReaderFault>
-    ensures forms { ReadsForm result first inner plan.old plan.new reader.old reader.new }
-    ensures shorter { Shortens result reader.old reader.new }
-{
-    let Some(v) = reader.head(first)? else {
-        let count = reader.natural(1, 1000)?;
-        let start = plan.len();
-        let mut empty = true;
-        while reader.inside(inner > 0, !empty)? {
-            form(reader, plan, false, inner - 1)?;
-            empty = false;
+// A script as far as it has been read, and the steps that its forms stand for.
+#[derive(Drop)]
+struct Expander<'a> {
+    reader: Reader<'a>,
+    plan: Plan<'a>,
+}
+
+impl<'a> Expander<'a> {
+    // A form whose bracket has been read; `inner` further brackets may stand inside it.
+    fn form(&mut self, inner: u32) -> Result<(), ReaderFault>
+        ensures forms { ReadsForm result inner self.old self.new }
+        ensures shorter { Shortens result self.old.reader self.new.reader }
+    {
+        let Some(v) = self.reader.head(self.plan.is_empty())? else {
+            let count = self.reader.natural(1, 1000)?;
+            let start = self.plan.len();
+            let mut empty = true;
+            while self.reader.inside(inner > 0, !empty)? {
+                self.form(inner - 1)?;
+                empty = false;
+            }
+            return self.plan.repeat(start, count);
+        };
+        let step = self.reader.call(v)?;
+        self.plan.push(step)
+    }
+
+    // One line: a form, or none.
+    #[tactic(auto, using(crate::proofs::Lined::lined_form, crate::proofs::Lined::lined_none))]
+    fn line(&mut self) -> Result<(), ReaderFault>
+        ensures lines { ReadsLine result self.old self.new }
+        ensures eats { Eats result self.old.reader self.new.reader }
+    {
+        if self.reader.outside()? {
+            self.form(INNER)?;
+            self.reader.line_end()?;
         }
-        return plan.repeat(start, count);
-    };
-    let step = reader.call(v)?;
-    plan.push(step)
-}
-
-// The form of a line, whose bracket has been read.
-fn line_form<'a>(
-    reader: &mut Reader<'a>,
-    plan: &mut Plan<'a>,
-    first: bool,
-) -> Result<(), ReaderFault>
-    ensures forms { ReadsForm result first 15 plan.old plan.new reader.old reader.new }
-    ensures shorter { Shortens result reader.old reader.new }
-{
-    form(reader, plan, first, INNER)
-}
-
-// One line: a form, or none. Answers whether a form is still the first.
-fn line<'a>(reader: &mut Reader<'a>, plan: &mut Plan<'a>, first: bool) -> Result<bool, ReaderFault>
-    ensures lines { ReadsLine result first plan.old plan.new reader.old reader.new }
-    ensures eats { Eats result reader.old reader.new }
-{
-    if !reader.outside()? {
-        return Ok(first);
+        Ok(())
     }
-    line_form(reader, plan, first)?;
-    reader.line_end()?;
-    Ok(false)
-}
-
-// A reader at the start of a script that has not too many bytes.
-fn at_start<'a>(script: &'a [u8]) -> Reader<'a>
-    requires { length script.now ≤ 16384 }
-    ensures line { result.line ≡ 1 }
-    ensures column { result.column ≡ 1 }
-    ensures rest { result.rest.now ≡ script.now }
-{
-    Reader {
-        rest: script,
-        line: 1,
-        column: 1,
-    }
-}
-
-// The steps of the lines of such a script.
-fn lines<'a>(heap: Global, script: &'a [u8]) -> Result<Vec<Step<'a>>, ReaderFault>
-    requires { length script.now ≤ 16384 }
-    ensures { MatchResult result (λ v. Steps script.now v.items) (λ f. Refusal script.now f) }
-{
-    let mut reader = at_start(script);
-    let mut plan = Plan::new(heap);
-    let mut first = true;
-    while !reader.is_done() {
-        first = line(&mut reader, &mut plan, first)?;
-    }
-    let Plan { steps, over } = plan;
-    if over {
-        return Err(ReaderFault::TooLong);
-    }
-    Ok(steps)
 }
 
 // The steps of a script, or why it is refused.
+#[tactic(auto, using(crate::proofs::Back::exactly_one, crate::proofs::Lined::behind_more))]
 pub fn read<'a>(heap: Global, script: &'a [u8]) -> Result<Vec<Step<'a>>, ReaderFault>
     ensures exact { MatchResult result (λ v. Steps script.now v.items) (λ f. Refusal script.now f) }
     ensures one { ExactlyOne script.now }
@@ -106,5 +67,16 @@ pub fn read<'a>(heap: Global, script: &'a [u8]) -> Result<Vec<Step<'a>>, ReaderF
     if script.len() > MOST_BYTES {
         return Err(ReaderFault::TooLong);
     }
-    lines(heap, script)
+    let mut expander = Expander {
+        reader: Reader {
+            rest: script,
+            line: 1,
+            column: 1,
+        },
+        plan: Plan::new(heap),
+    };
+    while !expander.reader.is_done() {
+        expander.line()?;
+    }
+    expander.plan.into_steps().ok_or(ReaderFault::TooLong)
 }

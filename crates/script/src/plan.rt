@@ -1,77 +1,90 @@
 // The flat list of steps that forms are expanded into.
-ghost use Rattle.std.specs.Prelude.{◌≡◌, ◌+◌, ◌-◌, ◌<◌, ◌≤◌, true, false, [], ◌∷◌, length};
+ghost use Rattle.std.specs.Prelude.{◌≡◌, ◌<◌, ◌≤◌, Some, [], ◌∷◌, length, map, option_map, IfSome};
 ghost use Rattle.scan.specs.Words.{said_of};
-ghost use Rattle.script.specs.Plans.{Pushes, Repeats};
+ghost use Rattle.script.specs.Plans.{nothing, size, Pushes, Adds, Repeats};
 
 use scan::types::{ReaderFault, Step};
 use std::alloc::Global;
+use std::marker::Model;
 
 const MOST_STEPS: usize = 4096;
 
-// At most 4,096 steps, and whether there were more.
+// At most 4,096 steps, or none once there were more.
 #[derive(Drop)]
 pub struct Plan<'a> {
-    pub(crate) steps: Vec<Step<'a>>,
-    pub(crate) over: bool,
+    steps: Option<Vec<Step<'a>>>,
 }
 
-// How often what stands once has still to be added, so that it stands `count` times.
-fn further(count: u32) -> u32
-    ensures { result ≡ count - 1 }
-{
-    count.saturating_sub(1)
+// Clauses see what the steps say.
+impl<'a> Model for Plan<'a> {
+    ghost use Rattle.std.specs.Prelude.{List, map, option_map, Option};
+    ghost use Rattle.scan.specs.Words.{Said, said_of};
+
+    ghost Value = { Option (List Said) };
+
+    ghost view = { λ p. option_map (λ v. map said_of v.items) p.steps };
 }
 
 impl<'a> Plan<'a> {
     pub fn new(heap: Global) -> Plan<'a>
-        ensures over { result.over ≡ false }
-        ensures items { result.steps.items ≡ [] }
+        ensures { result ≡ Some [] }
     {
         Plan {
-            steps: Vec::new(heap),
-            over: false,
+            steps: Some(Vec::new(heap)),
         }
     }
 
-    pub fn len(&self) -> usize
-        ensures { result ≡ length self.now.steps.items }
+    pub fn is_empty(&self) -> bool
+        ensures { result ≡ nothing self.now }
     {
-        self.steps.len()
+        self.steps.as_ref().is_some_and(|steps| steps.is_empty())
     }
 
-    // Whether so many further steps are not too many.
-    fn has_room(&self, more: usize) -> bool
-        ensures room { result ≡ true → length self.now.steps.items + more ≤ 4096 }
-        ensures full { result ≡ false → 4096 < length self.now.steps.items + more }
+    pub fn len(&self) -> usize
+        ensures { result ≡ size self.now }
     {
-        more <= MOST_STEPS && self.steps.len() <= MOST_STEPS - more
+        self.steps.as_ref().map_or(0, |steps| steps.len())
+    }
+
+    // The steps, or none where there were too many.
+    pub fn into_steps(self) -> Option<Vec<Step<'a>>>
+        ensures { option_map (λ v. map said_of v.items) result ≡ self.entry }
+    {
+        self.steps
     }
 
     pub fn push(&mut self, step: Step<'a>) -> Result<(), ReaderFault>
         ensures { Pushes result self.old self.new (said_of step.entry ∷ []) }
     {
-        if !self.has_room(1) {
-            self.over = true;
-            return Ok(());
+        match &mut self.steps {
+            Some(steps) if steps.len() < MOST_STEPS => steps.push(step)?,
+            _ => self.steps = None,
         }
-        self.steps.push(step)?;
+        Ok(())
+    }
+
+    // The steps from `start` to `end` once more.
+    fn add(&mut self, start: usize, end: usize) -> Result<(), ReaderFault>
+        requires { IfSome self.old (λ ss. (start < end) × (end ≤ length ss)) }
+        ensures { Adds result self.old self.new start end }
+    {
+        match &mut self.steps {
+            Some(steps) if steps.len() + (end - start) <= MOST_STEPS => {
+                steps.extend_from_within(start..end)?
+            }
+            _ => self.steps = None,
+        }
         Ok(())
     }
 
     // The steps from `start` on, `count` times in the place of once.
     pub fn repeat(&mut self, start: usize, count: u32) -> Result<(), ReaderFault>
+        requires { IfSome self.old (λ ss. start < length ss) }
         ensures { Repeats result self.old self.new start count }
     {
-        let end = self.steps.len();
-        if self.over || start > end {
-            return Ok(());
-        }
-        for turn in 0..further(count) {
-            if !self.has_room(end - start) {
-                self.over = true;
-                return Ok(());
-            }
-            self.steps.extend_from_within(start..end)?;
+        let end = self.len();
+        for _ in 1..count {
+            self.add(start, end)?;
         }
         Ok(())
     }

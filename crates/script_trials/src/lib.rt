@@ -16,23 +16,24 @@ mod tests {
     use std::test::Fail;
 
     // What is displayed of a script's outcome.
-    fn displayed(heap: Global, script: &[u8]) -> Result<String, AllocError> {
+    fn displayed(heap: Global, script: &[u8]) -> Result<String, Fail> {
+        let mut text = String::new(heap);
         match read(heap, script) {
-            Err(fault) => format!(in heap; "{fault}"),
+            Err(fault) => write!(text, "{fault}")?,
             Ok(steps) => {
-                let mut text = String::new(heap);
                 for step in &steps {
-                    let line = format!(in heap; "{step}\n")?;
-                    text.push_str(line.as_str())?;
+                    writeln!(text, "{step}")?;
                 }
-                Ok(text)
             }
         }
+        Ok(text)
     }
 
-    fn tried(rt: &impl Abort, heap: Global, trial: &Trial) -> Result<(), Fail> {
-        let text = displayed(heap, trial.script)?;
-        assert_eq!(rt; text.as_str(), trial.outcome);
+    fn tried(rt: &impl Abort, heap: Global, trials: &[Trial]) -> Result<(), Fail> {
+        for trial in trials {
+            let text = displayed(heap, trial.script)?;
+            assert_eq!(rt; text.as_str(), trial.outcome);
+        }
         Ok(())
     }
 
@@ -44,34 +45,22 @@ mod tests {
 
     #[test]
     fn lawful(rt: HostRuntime) -> Result<(), Fail> {
-        for trial in &LAWFUL {
-            tried(&rt, rt.alloc(), trial)?;
-        }
-        Ok(())
+        tried(&rt, rt.alloc(), &LAWFUL)
     }
 
     #[test]
     fn no_token(rt: HostRuntime) -> Result<(), Fail> {
-        for trial in &NO_TOKEN {
-            tried(&rt, rt.alloc(), trial)?;
-        }
-        Ok(())
+        tried(&rt, rt.alloc(), &NO_TOKEN)
     }
 
     #[test]
     fn unfit_first(rt: HostRuntime) -> Result<(), Fail> {
-        for trial in &UNFIT_FIRST {
-            tried(&rt, rt.alloc(), trial)?;
-        }
-        Ok(())
+        tried(&rt, rt.alloc(), &UNFIT_FIRST)
     }
 
     #[test]
     fn unfit_later(rt: HostRuntime) -> Result<(), Fail> {
-        for trial in &UNFIT_LATER {
-            tried(&rt, rt.alloc(), trial)?;
-        }
-        Ok(())
+        tried(&rt, rt.alloc(), &UNFIT_LATER)
     }
 
     // 4,096 steps with the opening, and one more.
@@ -97,9 +86,7 @@ mod tests {
     fn most_bytes(rt: HostRuntime) -> Result<(), Fail> {
         let heap = rt.alloc();
         let mut script = Vec::from_slice(heap, b"#")?;
-        for _ in 0..16383 {
-            script.push(b' ')?;
-        }
+        script.resize(16384, b' ')?;
         assert_eq!(rt;
             counted(heap, script.as_slice()),
             Err(ReaderFault::NoToken(Spot { line: 1, column: 1 }))

@@ -1,6 +1,10 @@
-use Rattle.std.proofs.Common.{◌≡◌, ◌≤◌, false, ◌++◌, drop, vec_items, vec_len}
+use Rattle.std.proofs.Common.{◌≡◌, ◌-◌, ◌≤◌}
 use Rattle.scan.specs.Forms.{copies}
+use Rattle.script.specs.Plans.{with_more, part, size}
 use Rattle.script.proofs.plan.Plan.repeat.Given as goal
 
-abbrev pub invariant-loop-turn : goal.invariant-loop-turn
-invariant-loop-turn l = (l.self.over ≡ false) × (vec_items l.self.steps ≡ vec_items l.initial.self.steps ++ copies l.turn (drop l.start (vec_items l.initial.self.steps))) × (vec_len l.initial.self.steps ≤ 4096 → vec_len l.self.steps ≤ 4096) × (l.start ≤ l.end) × (l.end ≤ vec_len l.self.steps)
+abbrev pub invariant-loop : goal.invariant-loop
+invariant-loop l = record {
+  holds : l.self ≡ with_more l.initial.self (copies (l.counter - 1) (part l.start (size l.initial.self) l.initial.self));
+  within : l.counter - 1 ≤ l.count - 1;
+}
