@@ -12,9 +12,9 @@ use crate::extent::Extent;
 use crate::faults::{HeapFault, Rule};
 use crate::strings::{follow, precedes, slot_of};
 use crate::titles::pointer_at;
-use crate::{CHARACTERS, LINK, LONGEST_TEXT, STRING, STRING_FIELDS, TITLE};
+use crate::{CHARACTERS, LINK, STRING, STRING_FIELDS, TITLE};
 use cells::{Descriptor, Store};
-use rules::string_cells;
+use rules::{LONGEST_TEXT, string_cells};
 
 // The head or link behind which a string with this number goes.
 pub fn place_for<S: Store>(store: &S, head: u32, number: u32) -> Result<u32, HeapFault>
@@ -89,7 +89,7 @@ pub fn write_string<S: Store>(
         ((result ≡ Ok (next + string_cells (S.memory store.old).figures.places (length text.now))) ×
         Written (S.memory store.old) next text.now link (S.memory store.new)) }
 {
-    if text.len() > LONGEST_TEXT {
+    if text.len() > LONGEST_TEXT as usize {
         return Err(HeapFault::LongText);
     }
     let length = text.len() as u32;

@@ -43,9 +43,3 @@ pub const STRING_FIELDS: u32 = 2;
 pub const LINK: u32 = 1 + STRING_FIELDS;
 
 pub const CHARACTERS: u32 = 2 + STRING_FIELDS;
-
-// No store has more cells.
-pub const MOST_CELLS: u32 = 65_535;
-
-// No text is longer.
-pub const LONGEST_TEXT: usize = 1_024;

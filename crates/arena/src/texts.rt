@@ -6,18 +6,18 @@ ghost use Rattle.arena.specs.Enters.{Takes};
 ghost use Rattle.arena.specs.Finds.{Readable, Spells};
 ghost use Rattle.arena.specs.Texts.{fit_text, ReadOut};
 
-use crate::LONGEST_TEXT;
 use crate::faults::HeapFault;
 use crate::fields::text_length;
 use crate::strings::character_at;
 use cells::{Store, StoreFault};
+use rules::LONGEST_TEXT;
 
 // Refuses a text that is too long, or that has a character which the store does not take.
 pub fn fit<S: Store>(store: &S, text: &[u8]) -> Result<(), HeapFault>
     ensures exact { result ≡ fit_text (S.memory store.now).figures text.now }
     ensures taken { result ≡ Ok tt → Takes (S.memory store.now) text.now }
 {
-    if text.len() > LONGEST_TEXT {
+    if text.len() > LONGEST_TEXT as usize {
         return Err(HeapFault::LongText);
     }
     let codes = store.lowest()..=store.highest();

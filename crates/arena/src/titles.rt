@@ -8,8 +8,8 @@ ghost use Rattle.arena.specs.Stored.{Field};
 ghost use Rattle.arena.specs.Titles.{Back, count, with_mark, cells_of, retitled};
 
 use crate::faults::{HeapFault, Rule};
-use crate::{CHARACTERS, MARK, MOST_CELLS, POINTER, STRING, STRING_FIELDS, TITLE};
-use cells::{Descriptor, Store};
+use crate::{CHARACTERS, MARK, POINTER, STRING, STRING_FIELDS, TITLE};
+use cells::{Descriptor, MOST_CELLS, Store};
 
 // The title before a cell, and the distance to it: the number of the field, if the cell is that of a field.
 pub fn title_of<S: Store>(store: &S, cell: u32) -> Result<(u32, u32), HeapFault>

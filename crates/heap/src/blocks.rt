@@ -1,11 +1,10 @@
 // The walk over the blocks. Between its steps the store may change.
 ghost use Rattle.std.specs.Prelude.{◌≤◌};
 
-use arena::MOST_CELLS;
 use arena::extent::Extent;
 use arena::faults::{HeapFault, Rule};
 use arena::titles::cells_of;
-use cells::{Descriptor, Store};
+use cells::{Descriptor, MOST_CELLS, Store};
 
 // The walk stands at a cell, and goes up to the end.
 #[derive(Drop)]

@@ -11,11 +11,10 @@ ghost use Rattle.heap.specs.Walks.{Tiled, Searched};
 
 use crate::blocks::{Block, Blocks};
 use crate::descriptors::{holds, is_marked, is_pointer, is_string};
-use arena::MOST_CELLS;
 use arena::extent::Extent;
 use arena::faults::{HeapFault, Rule};
 use arena::titles::{cell_of, field_count, marked, title_of};
-use cells::{Descriptor, Store};
+use cells::{Descriptor, MOST_CELLS, Store};
 
 // A queue of marked titles, none twice, that only grows: the entries of a lent list below the tail.
 #[derive(Drop)]

@@ -7,11 +7,10 @@ ghost use Rattle.heap.specs.Moves.{Hits, Ready, Relocating, Relocated, Prepared,
 
 use crate::blocks::{Block, Blocks};
 use crate::descriptors::{is_marked, is_pointer};
-use arena::MOST_CELLS;
 use arena::extent::Extent;
 use arena::faults::{HeapFault, Rule};
 use arena::titles::{cell_of, field_count, new_title, pointer_at, title_of};
-use cells::{Descriptor, Store};
+use cells::{Descriptor, MOST_CELLS, Store};
 
 // Writes the new cell of each marked title into the table, and gives the first cell that is free then.
 pub fn layout<S: Store>(store: &S, extent: Extent, work: &mut [u32]) -> Result<u32, HeapFault>

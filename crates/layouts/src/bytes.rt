@@ -5,10 +5,8 @@ ghost use Rattle.layouts.specs.Byte8.{shown, bytes_descriptor};
 ghost use Rattle.layouts.specs.CellBytes.{byte, OneCell};
 ghost use Rattle.std.proofs.Common.{rules};
 
-use cells::{Descriptor, Store, StoreFault};
+use cells::{Descriptor, MOST_CELLS, Store, StoreFault};
 use std::alloc::{AllocError, Global};
-
-const MOST_CELLS: usize = 65_535;
 
 const WIDTH: usize = 8;
 
@@ -31,7 +29,7 @@ impl Byte8 {
     pub fn with_cells(heap: Global, cells: u32) -> Result<Self, AllocError>
         ensures { IfOk result (λ s. s.bytes.items ≡ replicate (8 * cells) 0) }
     {
-        Ok(Byte8 {
+        Ok(Self {
             bytes: vec![in heap; 0; WIDTH * cells as usize]?,
         })
     }
@@ -50,7 +48,7 @@ impl Store for Byte8 {
     ghost sound = { Prim.search rules };
 
     fn cells(&self) -> u32 {
-        (self.bytes.len() / WIDTH).min(MOST_CELLS) as u32
+        (self.bytes.len() / WIDTH).min(MOST_CELLS as usize) as u32
     }
 
     fn places(&self) -> u32 {

@@ -4,10 +4,8 @@ ghost use Rattle.cells.specs.Meaning.{WritesDescriptor, WritesCharacter, Moves};
 ghost use Rattle.layouts.specs.Sixbit.{shown, word_descriptor, word_character, OneWord, SameCell, OnePlace};
 ghost use Rattle.std.proofs.Common.{rules};
 
-use cells::{Descriptor, Store, StoreFault};
+use cells::{Descriptor, MOST_CELLS, Store, StoreFault};
 use std::alloc::{AllocError, Global};
-
-const MOST_CELLS: usize = 65_535;
 
 const PLACES: u32 = 10;
 
@@ -34,7 +32,7 @@ impl Sixbit {
 
     // A store of so many cells, or of 65,535 where that is fewer, each zero.
     pub fn with_cells(heap: Global, cells: u32) -> Result<Self, AllocError>
-        ensures { IfOk result (λ s. s.words.items ≡ replicate (cells) 0) }
+        ensures { IfOk result (λ s. s.words.items ≡ replicate cells 0) }
     {
         Ok(Sixbit {
             words: vec![in heap; 0; cells as usize]?,
@@ -55,7 +53,7 @@ impl Store for Sixbit {
     ghost sound = { Prim.search rules };
 
     fn cells(&self) -> u32 {
-        self.words.len().min(MOST_CELLS) as u32
+        self.words.len().min(MOST_CELLS as usize) as u32
     }
 
     fn places(&self) -> u32 {

@@ -4,8 +4,8 @@
 use layouts::bytes::Byte8;
 use layouts::words::Sixbit;
 use plan::names::names_of;
-use plan::tallies::{LONGEST, PlanFault, Tally, cells_in, fullest, plan_for};
-use rules::key_of;
+use plan::tallies::{PlanFault, Tally, cells_in, fullest, plan_for};
+use rules::{LONGEST_TEXT, key_of};
 use std::alloc::Global;
 use std::io::Read;
 use std::{env, fmt, io};
@@ -37,7 +37,7 @@ impl fmt::Display for Cells {
 
 // What is to be said of a name that some layout cannot hold.
 fn remark(name: &[u8], in_words: Option<u32>) -> &'static str {
-    if name.len() > LONGEST {
+    if name.len() > LONGEST_TEXT as usize {
         "..  (too long)"
     } else if in_words.is_none() {
         "  (not in sixbit)"
@@ -48,7 +48,7 @@ fn remark(name: &[u8], in_words: Option<u32>) -> &'static str {
 
 // As much of a name as a line shows.
 fn front(name: &[u8]) -> &[u8] {
-    if name.len() > LONGEST {
+    if name.len() > LONGEST_TEXT as usize {
         &name[..SHOWN]
     } else {
         name

@@ -6,14 +6,9 @@ ghost use Rattle.plan.specs.Plans.{all_taken, cells_in, Planned, Largest};
 
 use crate::names::distinct_of;
 use cells::Store;
-use rules::{cells_of_string, key_of};
+use rules::{LONGEST_TEXT, MOST_BINS, key_of, string_cells};
 use std::alloc::{AllocError, Global};
 use thiserror::Error;
-
-// A string has at most so many characters.
-pub const LONGEST: usize = 1_024;
-
-const MOST_BINS: u32 = 256;
 
 const MOST_NAMES: usize = 1_048_576;
 
@@ -58,8 +53,8 @@ fn takes_all<S: Store>(store: &S, name: &[u8]) -> bool
 pub fn cells_in<S: Store>(store: &S, name: &[u8]) -> Option<u32>
     ensures { result ≡ cells_in (S.memory store.now).figures name.now }
 {
-    if (1..=LONGEST).contains(&name.len()) && takes_all(store, name) {
-        Some(cells_of_string(name.len() as u32, store.places()))
+    if (1..=LONGEST_TEXT as usize).contains(&name.len()) && takes_all(store, name) {
+        string_cells(name.len() as u32, store.places())
     } else {
         None
     }

@@ -1,5 +1,5 @@
 -- The plain model: what the calls put where, with pointers to things and not to cells.
-use Rattle.std.specs.Prelude.{◌≡◌, ℕ, ◌+◌, ◌-◌, ◌/◌, ◌<◌, ◌≤◌, Bool, true, false, Option, Some, None, cond, ◌&&◌, ◌≢◌, List, [], ◌∷◌, length, replicate, ℤ, pos, negsuc, ◌==◌, nat_le, slice_index, slice_index_or}
+use Rattle.std.specs.Prelude.{◌≡◌, ℕ, ◌+◌, ◌-◌, ◌/◌, ◌<◌, ◌≤◌, Bool, true, false, Option, Some, None, unwrap_or, cond, ◌&&◌, ◌≢◌, List, [], ◌∷◌, length, replicate, ℤ, pos, negsuc, ◌==◌, nat_le, slice_index, slice_index_or}
 use Rattle.rules.specs.Lists.{In, Once}
 
 -- A text is the list of its characters' codes.
@@ -50,9 +50,9 @@ string_cells c l = 2 + string_fields + ((l - 1) / c + 1)
 abbrev pub string_cells_within : ℕ → ℕ → Option ℕ
 string_cells_within l c = cond (nat_le 1 l && nat_le l 1024 && nat_le 1 c && nat_le c 16) (Some (string_cells c l)) None
 
--- The same where the length is 1 to 1,024 and a cell has 1 to 16 characters, and 0 elsewhere.
+-- The same, and 0 where there is none.
 abbrev pub string_cells_or_zero : ℕ → ℕ → ℕ
-string_cells_or_zero l c = cond (nat_le 1 l && nat_le l 1024 && nat_le 1 c && nat_le c 16) (string_cells c l) 0
+string_cells_or_zero l c = unwrap_or (string_cells_within l c) 0
 
 -- The cells of a thing: a block has its title and its fields.
 abbrev pub size : ℕ → Model → Thing → ℕ

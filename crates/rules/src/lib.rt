@@ -8,6 +8,15 @@ ghost use Rattle.rules.specs.Keys.{key};
 ghost use Rattle.rules.specs.Calls.{first, divides, quotient};
 ghost use Rattle.rules.specs.Requests.{meant};
 
+// No text is longer.
+pub const LONGEST_TEXT: u32 = 1_024;
+
+// No cell has more characters.
+pub const MOST_PLACES: u32 = 16;
+
+// No workspace has more bins.
+pub const MOST_BINS: u32 = 256;
+
 // The layer whose check refuses.
 #[derive(Clone, Copy, PartialEq, Eq, Debug)]
 pub enum Layer {
@@ -107,11 +116,11 @@ pub fn free_cells(cells: u32, first: u32) -> u32
     cells.saturating_sub(first)
 }
 
-// The cells of a string of `l` characters at `c` to a cell, if it has 1 to 1,024 and a cell 1 to 16.
+// The cells of a string of `l` characters at `c` to a cell, where there can be such a string.
 pub fn string_cells(l: u32, c: u32) -> Option<u32>
     ensures { result ≡ string_cells_within l c }
 {
-    if (1..=1024).contains(&l) && (1..=16).contains(&c) {
+    if (1..=LONGEST_TEXT).contains(&l) && (1..=MOST_PLACES).contains(&c) {
         Some(4 + l.div_ceil(c))
     } else {
         None

@@ -4,7 +4,7 @@ use Rattle.std.proofs.lemmas.Bool.{and_from, le-leb, cond-true}
 use Rattle.cells.specs.declared.Descriptor.{Descriptor}
 use Rattle.cells.specs.Meaning.{Memory, Figures, Sound, FitCode}
 use Rattle.rules.specs.Lists.{In}
-use Rattle.rules.specs.Model.{Text, Thing, string, Value, Model, size, string_cells, string_cells_or_zero}
+use Rattle.rules.specs.Model.{Text, Thing, string, Value, Model, size, string_cells, string_cells_within}
 use Rattle.rules.specs.Arena.{desc, Arena, At, Codes, as_text}
 use Rattle.rules.specs.Calls.{put}
 use Rattle.rules.proofs.Lists.{keeps_from}
@@ -26,13 +26,17 @@ pub opened_bins : (m : Model) (a : Arena) (v : View) (b n : ℕ) → Shown m a v
 opened_bins m a v b n s e = bins_same b n a.bins a.«next» (sym e ∙ s.opened)
 
 -- The cells of a string, by the count that the code has.
-pub need_is : (o : Memory) (t : Text) (places need : ℕ) → Sound o → places ≡ o.figures.places → 1 ≤ length t → length t ≤ 1024 → need ≡ string_cells_or_zero (length t) places →
-    need ≡ string_cells o.figures.places (length t)
-need_is o t places need snd e some few is =
+pub count_is : (o : Memory) (t : Text) (places : ℕ) → Sound o → places ≡ o.figures.places → 1 ≤ length t → length t ≤ 1024 →
+    string_cells_within (length t) places ≡ Some (string_cells o.figures.places (length t))
+count_is o t places snd e some few =
     let p1 : 1 ≤ places = rw e snd.one_place in
     let p2 : places ≤ 16 = rw e snd.few_places in
     let b = and_from _ _ (and_from _ _ (and_from _ _ (le-leb 1 (length t) some) (le-leb (length t) 1024 few)) (le-leb 1 places p1)) (le-leb places 16 p2) in
-    is ∙ cond-true _ _ _ b ∙ ap (λ (c : ℕ). string_cells c (length t)) e
+    cond-true _ _ _ b ∙ ap (λ (c : ℕ). Some (string_cells c (length t))) e
+
+pub need_is : (o : Memory) (t : Text) (places need : ℕ) → Sound o → places ≡ o.figures.places → 1 ≤ length t → length t ≤ 1024 → string_cells_within (length t) places ≡ Some need →
+    need ≡ string_cells o.figures.places (length t)
+need_is o t places need snd e some few is = let same = sym is ∙ count_is o t places snd e some few in cc
 
 -- Room that was made keeps the bins, and adds nothing to the order.
 roomed_bins : {f : Figures} {m : Model} {a : Arena} {need : ℕ} {b : Arena} → Roomed f m a need b → b.bins ≡ a.bins

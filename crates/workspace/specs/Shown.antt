@@ -1,5 +1,6 @@
 -- When a workspace shows a model, and what a call that is exact gives.
-use Rattle.std.specs.Prelude.{◌≡◌, ℕ, ◌+◌, ◌<◌, ◌≤◌, ◌≢◌, ◌⊎◌, List, [], ◌∷◌, length, take, drop, ℤ, pos, Ok, Err, Result, slice_index, slice_index_or}
+use Rattle.std.specs.Int.{from_bool}
+use Rattle.std.specs.Prelude.{◌≡◌, ℕ, ◌+◌, ◌<◌, ◌≤◌, ◌≢◌, ◌⊎◌, List, [], ◌∷◌, length, take, drop, ℤ, pos, Ok, Err, Result, slice_index, slice_index_or, Bool}
 use Rattle.cells.specs.declared.Descriptor.{Descriptor}
 use Rattle.cells.specs.Meaning.{Figures, Memory}
 use Rattle.rules.specs.Lists.{In, Keeps}
@@ -119,6 +120,10 @@ nothing u = []
 
 abbrev pub count : ℕ → List ℤ
 count n = pos n ∷ []
+
+-- 1 for yes, and 0 for no.
+abbrev pub truth : Bool → List ℤ
+truth b = count (from_bool b)
 
 abbrev pub pair : ℕ × ℤ → List ℤ
 pair x = pos x.0 ∷ x.1 ∷ []

@@ -3,18 +3,15 @@ ghost use Rattle.std.specs.Prelude.{◌≡◌, true, is_err, ◌≢◌, slice_in
 ghost use Rattle.rules.specs.Arena.{desc};
 ghost use Rattle.rules.specs.Calls.{null as rule_null, number as rule_number, copy as rule_copy, divide as rule_divide, same as rule_same};
 ghost use Rattle.arena.specs.Values.{held};
-ghost use Rattle.workspace.specs.Shown.{view, Admits, Exact, answered, nothing, count};
+ghost use Rattle.workspace.specs.Shown.{view, Admits, Exact, answered, nothing, truth};
 
 use crate::faults::{Cause, Site, WorkspaceFault};
-use crate::space::Workspace;
+use crate::space::{REGISTERS, Workspace};
 use arena::NUMBER;
 use arena::titles::null_value;
 use arena::values::decoded;
 use cells::{Descriptor, Store};
 use rules::{Word, quotient_of};
-
-// There are 32 registers.
-const REGISTERS: u32 = 32;
 
 // The descriptor of a number.
 fn number_value(z: i32) -> Descriptor
@@ -37,7 +34,7 @@ impl<S: Store> Workspace<S> {
             return Err(Site { call, register }.refusal(Cause::Closed));
         }
         for r in registers {
-            if *r >= REGISTERS {
+            if *r >= REGISTERS as u32 {
                 return Err(Site { call, register: *r }.refusal(Cause::NoRegister));
             }
         }
@@ -89,11 +86,11 @@ impl<S: Store> Workspace<S> {
         Ok(())
     }
 
-    // 1 if the registers r and s hold the same value, else 0.
-    pub(crate) fn same(&self, r: u32, s: u32) -> Result<u32, WorkspaceFault>
-        ensures { Exact (view S.memory self.now) (rule_same r s) (answered count result) (view S.memory self.now) }
+    // Whether the registers r and s hold the same value.
+    pub(crate) fn same(&self, r: u32, s: u32) -> Result<bool, WorkspaceFault>
+        ensures { Exact (view S.memory self.now) (rule_same r s) (answered truth result) (view S.memory self.now) }
     {
         self.admit(Word::Same, &[r, s])?;
-        Ok(u32::from(self.registers[r as usize] == self.registers[s as usize]))
+        Ok(self.registers[r as usize] == self.registers[s as usize])
     }
 }

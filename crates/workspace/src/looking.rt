@@ -9,6 +9,7 @@ use arena::fields::{count_at, length_at};
 use arena::texts::read_text;
 use arena::titles::title_of;
 use arena::values::{Held, decoded};
+use arena::{NAME, NULL, NUMBER, TEXT};
 use cells::Store;
 use rules::Word;
 
@@ -23,11 +24,11 @@ impl<S: Store> Workspace<S> {
             register: r,
         };
         match decoded(self.registers[r as usize]) {
-            Held::Null => Ok((1, 0)),
-            Held::Number(z) => Ok((6, i64::from(z))),
+            Held::Null => Ok((NULL, 0)),
+            Held::Number(z) => Ok((NUMBER, i64::from(z))),
             Held::Text(title) => {
                 let length = site.in_call(length_at(&self.cells, title))?;
-                Ok((1, i64::from(length)))
+                Ok((TEXT, i64::from(length)))
             }
             Held::Block(title, t) => {
                 let fields = site.in_call(count_at(&self.cells, title))?;
@@ -35,7 +36,7 @@ impl<S: Store> Workspace<S> {
             }
             Held::Name(cell) => {
                 let (_, k) = site.in_call(title_of(&self.cells, cell))?;
-                Ok((9, i64::from(k)))
+                Ok((NAME, i64::from(k)))
             }
             Held::Other => Err(site.refusal(Cause::WrongKind)),
         }

@@ -13,6 +13,7 @@ ghost use Rattle.workspace.specs.Shown.{view, Shown, ExactWith, Untouched, answe
 
 use crate::faults::{Cause, Site, WorkspaceFault};
 use crate::space::Workspace;
+use arena::TEXT;
 use arena::blocks::{fit as fit_block, make_block};
 use arena::entering::enter_text;
 use arena::extent::Extent;
@@ -20,11 +21,10 @@ use arena::faults::{HeapFault, Rule};
 use arena::strings::find;
 use arena::texts::fit as fit_text;
 use arena::titles::{null_value, pointer_at};
-use arena::{LONGEST_TEXT, TEXT};
 use cells::Store;
 use heap::regeneration::regenerate;
 use heap::room::make_room;
-use rules::{Word, cells_of_string};
+use rules::{LONGEST_TEXT, Word, free_cells, string_cells};
 
 impl<S: Store> Workspace<S> {
     // Refusal 15: the work list is as long as the cells.
@@ -119,7 +119,7 @@ impl<S: Store> Workspace<S> {
         };
         let next = regenerate(&mut self.cells, &mut self.registers, extent, work)?;
         self.state = Some(Extent { next, ..extent });
-        let free = self.cells.cells().saturating_sub(next);
+        let free = free_cells(self.cells.cells(), next);
         if free < need {
             return Err(HeapFault::NoRoom);
         }
@@ -156,10 +156,11 @@ impl<S: Store> Workspace<S> {
             Grows m a (view S.memory self.old) (string_cells (S.memory self.old.cells).figures.places (length text.now))
             (put m r (Value.text text.now)) (λ b. arena_with_text (S.memory self.old.cells).figures.places b text.now) (view S.memory self.new) result }
     {
-        if text.len() > LONGEST_TEXT {
+        if text.len() > LONGEST_TEXT as usize {
             return Err(HeapFault::LongText);
         }
-        let need = cells_of_string(text.len() as u32, self.cells.places());
+        let length = text.len() as u32;
+        let need = string_cells(length, self.cells.places()).ok_or(HeapFault::LongText)?;
         let next = self.room(need, work)?;
         let end = enter_text(&mut self.cells, Extent { bins, next }, text)?;
         let string = pointer_at(next, TEXT)?;

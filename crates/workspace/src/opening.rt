@@ -6,14 +6,11 @@ ghost use Rattle.workspace.specs.Shown.{view, answered, nothing};
 ghost use Rattle.workspace.specs.Opened.{Opens};
 
 use crate::faults::{Cause, Site, WorkspaceFault};
-use crate::space::Workspace;
+use crate::space::{REGISTERS, Workspace};
 use arena::opening::open_arena;
 use arena::titles::null_value;
 use cells::Store;
-use rules::Word;
-
-// There are at most 256 bins.
-const MOST_BINS: u32 = 256;
+use rules::{MOST_BINS, Word};
 
 // Refusals of open have no register.
 const OPENING: Site = Site {
@@ -28,7 +25,7 @@ impl<S: Store> Workspace<S> {
     {
         Workspace {
             cells: store,
-            registers: [null_value(); 32],
+            registers: [null_value(); REGISTERS],
             state: None,
         }
     }

@@ -5,7 +5,7 @@ ghost use Rattle.rules.specs.Arena.{Arena};
 ghost use Rattle.rules.specs.Requests.{meant};
 ghost use Rattle.rules.specs.Calls.{read as rule_read, ok};
 ghost use Rattle.workspace.specs.Logs.{Performs, entry, entries, calls_of, Logged};
-ghost use Rattle.workspace.specs.Shown.{view, Shown, Exact, answered, nothing, count, pair};
+ghost use Rattle.workspace.specs.Shown.{view, Shown, Exact, answered, nothing, count, truth, pair};
 
 use crate::faults::WorkspaceFault;
 use crate::space::Workspace;
@@ -44,6 +44,14 @@ impl Answer for u32 {
 
     fn entry(self) -> Entry {
         Entry::Count(self)
+    }
+}
+
+impl Answer for bool {
+    ghost numbers = { truth };
+
+    fn entry(self) -> Entry {
+        Entry::Count(u32::from(self))
     }
 }
 

@@ -2,10 +2,12 @@
 use arena::extent::Extent;
 use cells::Descriptor;
 
+pub(crate) const REGISTERS: usize = 32;
+
 // A workspace is made closed; an open one has its bins and its first free cell.
 #[derive(Drop)]
 pub struct Workspace<S> {
     pub(crate) cells: S,
-    pub(crate) registers: [Descriptor; 32],
+    pub(crate) registers: [Descriptor; REGISTERS],
     pub(crate) state: Option<Extent>,
 }

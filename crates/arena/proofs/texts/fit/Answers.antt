@@ -20,8 +20,8 @@ first g c =
 
 pub returns-in-None-clause-exact : goal.returns-in-None-clause-exact
 returns-in-None-clause-exact g c =
-    fits_whole (g.S.Store.memory c.args.store.now).figures _ c.if-text-gt-LONGEST_TEXT.false (rw c.in-None.is at (first g (goal.at.returns-in-None-clause-exact g c).After-position))
+    fits_whole (g.S.Store.memory c.args.store.now).figures _ c.if-text.false (rw c.in-None.is at (first g (goal.at.returns-in-None-clause-exact g c).After-position))
 
 pub returns-in-Some-clause-exact : goal.returns-in-Some-clause-exact
 returns-in-Some-clause-exact g c =
-    fits_until (g.S.Store.memory c.args.store.now).figures _ c.in-Some.place c.if-text-gt-LONGEST_TEXT.false (rw c.in-Some.is at (first g (goal.at.returns-in-Some-clause-exact g c).After-position))
+    fits_until (g.S.Store.memory c.args.store.now).figures _ c.in-Some.place c.if-text.false (rw c.in-Some.is at (first g (goal.at.returns-in-Some-clause-exact g c).After-position))

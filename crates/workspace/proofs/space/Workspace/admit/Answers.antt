@@ -8,6 +8,6 @@ returns g c = (
   all_below (λ (r : ℕ). r ≤ 31) c.args.registers.now (λ j l. c.loop-r.invariant j (omega arith)),
 )
 
-pub returns-then-r-ge-REGISTERS : goal.returns-then-r-ge-REGISTERS
-returns-then-r-ge-REGISTERS g c =
+pub returns-then-r : goal.returns-then-r
+returns-then-r g c =
     inr (open_state c.args.self.now.state (c.is_none.ensures ∙ ap not c.if-is_none.false), search rules)

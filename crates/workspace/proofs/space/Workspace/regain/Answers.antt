@@ -13,11 +13,11 @@ returns-then-free-need g c m a s long =
     let v = view g.S.Store.memory c.args.self.now in
     let r = c.in_ok-next.ensures m a (down m a v c.in-Some.extent.bins c.in-Some.extent.next c.args.work.now s c.in-Some.is long) in
     regain_full m a v c.in-Some.extent.bins c.in_ok-next.next c.args.need c.regenerate.new.registers c.regenerate.new.work (g.S.Store.memory c.regenerate.new.store) r
-    c.cells.result c.saturating_sub-free.result c.cells.ensures c.saturating_sub-free.ensures c.if-free-need.true
+    c.cells.result c.free_cells-free.result c.cells.ensures c.free_cells-free.ensures c.if-free-need.true
 
 pub returns : goal.returns
 returns g c m a s long =
     let v = view g.S.Store.memory c.args.self.now in
     let r = c.in_ok-next.ensures m a (down m a v c.in-Some.extent.bins c.in-Some.extent.next c.args.work.now s c.in-Some.is long) in
     regain_fit m a v c.in-Some.extent.bins c.in_ok-next.next c.args.need c.regenerate.new.registers c.regenerate.new.work (g.S.Store.memory c.regenerate.new.store) r
-    c.cells.result c.saturating_sub-free.result c.cells.ensures c.saturating_sub-free.ensures c.if-free-need.false
+    c.cells.result c.free_cells-free.result c.cells.ensures c.free_cells-free.ensures c.if-free-need.false
