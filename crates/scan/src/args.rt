@@ -13,6 +13,11 @@ use crate::words::{
     text_of,
 };
 
+// An argument is a number of 31 bits, and a script opens no store with more cells.
+const MOST_NUMBER: u32 = 2_147_483_647;
+
+const MOST_CELLS: u32 = 4_096;
+
 impl<'a> Reader<'a> {
     // What a function takes the next token for, or the fault there.
     fn pick<T, F: FnOnce(Token<'a>) -> Option<T>>(&mut self, take: F) -> Result<T, ReaderFault>
@@ -37,7 +42,7 @@ impl<'a> Reader<'a> {
         ensures picks { PicksFrom (natural_of 0 2147483647) (ahead self.old) result self.new }
         ensures shorter { Shortens result self.old self.new }
     {
-        self.natural(0, 2147483647)
+        self.natural(0, MOST_NUMBER)
     }
 
     // Numbers, and the closing bracket.
@@ -59,7 +64,7 @@ impl<'a> Reader<'a> {
         ensures shorter { Shortens result self.old self.new }
     {
         let layout = self.pick(layout_of)?;
-        let cells = self.natural(1, 4096)?;
+        let cells = self.natural(1, MOST_CELLS)?;
         let [bins] = self.arguments::<1>()?;
         Ok(Step::Open(layout, cells, bins))
     }

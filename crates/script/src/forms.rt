@@ -23,6 +23,9 @@ struct Expander<'a> {
     plan: Plan<'a>,
 }
 
+// A form is repeated at most so often.
+const MOST_TIMES: u32 = 1_000;
+
 impl<'a> Expander<'a> {
     // A form whose bracket has been read; `inner` further brackets may stand inside it.
     fn form(&mut self, inner: u32) -> Result<(), ReaderFault>
@@ -30,7 +33,7 @@ impl<'a> Expander<'a> {
         ensures shorter { Shortens result self.old.reader self.new.reader }
     {
         let Some(v) = self.reader.head(self.plan.is_empty())? else {
-            let count = self.reader.natural(1, 1000)?;
+            let count = self.reader.natural(1, MOST_TIMES)?;
             let start = self.plan.len();
             let mut empty = true;
             while self.reader.inside(inner > 0, !empty)? {
