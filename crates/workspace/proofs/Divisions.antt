@@ -1,5 +1,5 @@
 -- The numbers in registers, and their quotient.
-use Rattle.std.proofs.Common.{◌≡◌, ℕ, ◌≤◌, Bool, true, false, cond, [], ℤ, Some, None, Ok, Err, Option, sym, refl, ap, subst, arith}
+use Rattle.std.proofs.Common.{Result, ◌≡◌, ℕ, ◌≤◌, Bool, true, false, cond, [], ℤ, Some, None, Ok, Err, Option, sym, refl, ap, subst, arith}
 use Rattle.cells.specs.Meaning.{Memory}
 use Rattle.rules.specs.declared.Layer.{Layer}
 use Rattle.rules.specs.declared.Word.{Word}
@@ -8,12 +8,16 @@ use Rattle.rules.specs.Arena.{Arena}
 use Rattle.rules.specs.Calls.{Act, give, refuse, put, number_then, unfit, divides, quotient}
 use Rattle.arena.specs.declared.values.Held.{Held}
 use Rattle.arena.specs.declared.values.Held.TheVariants as is
-use Rattle.arena.specs.Values.{held, Means}
+use Rattle.arena.specs.Values.{held, Means, number_held as held_number}
 use Rattle.arena.proofs.Outcomes.{ok_not_err}
 use Rattle.workspace.specs.declared.faults.WorkspaceFault.{WorkspaceFault}
-use Rattle.workspace.specs.Taken.{wrong_kind, number_taken}
+use Rattle.workspace.specs.Taken.{wrong_kind, taken}
 use Rattle.workspace.specs.Shown.{View, Shown, holding}
 use Rattle.workspace.proofs.Holdings.{register_means, number_in}
+
+-- The number that a call takes from a register.
+abbrev pub number_taken : Word → ℕ → Held → Result ℤ WorkspaceFault
+number_taken w r h = taken w r (held_number h)
 
 -- What a call that divides comes to, past its two numbers, and past the first.
 abbrev pub quotient_then : Model → ℕ → ℤ → ℤ → Act

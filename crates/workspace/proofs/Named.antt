@@ -18,10 +18,10 @@ use Rattle.workspace.specs.declared.faults.WorkspaceFault.{WorkspaceFault}
 use Rattle.workspace.specs.State.{Opened}
 use Rattle.workspace.specs.Reports.{report, raised, told}
 use Rattle.workspace.specs.Shown.{View, holding, Shown, Exact, answered, nothing}
-use Rattle.workspace.specs.Taken.{wrong_kind, name_taken, thing_taken}
+use Rattle.workspace.specs.Taken.{wrong_kind}
 use Rattle.workspace.proofs.Raises.{raised_ok, raised_never, raised_call, raised_err, raised_not}
 use Rattle.workspace.proofs.Steps.{by_giving, by_storing, by_refusing, proper_in, put_shown}
-use Rattle.workspace.proofs.Takings.{name_fault, name_is, name_not, thing_fault, thing_is, thing_not}
+use Rattle.workspace.proofs.Takings.{name_taken, thing_taken, name_fault, name_is, name_not, thing_fault, thing_is, thing_not}
 
 -- The workspace is open, and the registers are there.
 abbrev pub Admitted : View → List ℕ → Type 0

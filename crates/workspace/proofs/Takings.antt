@@ -1,20 +1,27 @@
 -- Which value of the model a call has taken from a register, and which it has refused.
-use Rattle.std.proofs.Common.{◌≡◌, ℕ, ◌≤◌, Ok, Err, sym, refl, ap, ◌∙◌, subst, arith}
+use Rattle.std.proofs.Common.{Result, ◌≡◌, ℕ, ◌≤◌, Ok, Err, sym, refl, ap, ◌∙◌, subst, arith}
 use Rattle.rules.specs.declared.Word.{Word}
 use Rattle.rules.specs.Model.{Thing, block, string, Value, null, number, text, to, name, Model, register}
 use Rattle.rules.specs.Arena.{Arena, At}
 use Rattle.rules.specs.Calls.{Act, unfit, thing_then, field_then}
 use Rattle.arena.specs.declared.values.Held.{Held}
 use Rattle.arena.specs.declared.values.Held.TheVariants as is
-use Rattle.arena.specs.Values.{held, Means}
+use Rattle.arena.specs.Values.{held, Means, name_held as held_name, thing_held as held_thing}
 use Rattle.arena.specs.Stored.{Field}
 use Rattle.arena.proofs.Outcomes.{ok_same, ok_not_err}
 use Rattle.arena.proofs.Decoding.{decodes}
 use Rattle.arena.proofs.Meanings.{is_name}
 use Rattle.workspace.specs.declared.faults.WorkspaceFault.{WorkspaceFault}
 use Rattle.workspace.specs.Shown.{View, holding, Shown}
-use Rattle.workspace.specs.Taken.{wrong_kind, name_taken, thing_taken}
+use Rattle.workspace.specs.Taken.{wrong_kind, taken}
 use Rattle.workspace.proofs.Steps.{proper_in}
+
+-- The name, and the block or string, that a call takes from a register, by its cell.
+abbrev pub name_taken : Word → ℕ → Held → Result ℕ WorkspaceFault
+name_taken w r h = taken w r (held_name h)
+
+abbrev pub thing_taken : Word → ℕ → Held → Result ℕ WorkspaceFault
+thing_taken w r h = taken w r (held_thing h)
 
 -- What a register of a shown model holds.
 pub means_in : {m : Model} {a : Arena} {v : View} → Shown m a v → (r : ℕ) → r ≤ 31 → Means m a v.memory (register m r) (held (holding v r))

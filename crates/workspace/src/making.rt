@@ -42,18 +42,10 @@ impl<S: Store> Workspace<S> {
         ensures { (m : Model) (a : Arena) → Shown m a (view S.memory self.old) → (S.memory self.old.cells).figures.cells ≤ length work.old →
             RoomOf m a (view S.memory self.old) need (view S.memory self.new) result }
     {
-        let Some(mut extent) = self.state else {
+        let Some(extent) = &mut self.state else {
             return Err(HeapFault::Unlawful(Rule::Next, 0));
         };
-        let answer = make_room(
-            &mut self.cells,
-            &mut self.registers,
-            &mut extent,
-            work,
-            need,
-        );
-        self.state = Some(extent);
-        answer?;
+        make_room(&mut self.cells, &mut self.registers, extent, work, need)?;
         Ok(extent.next)
     }
 
@@ -61,8 +53,8 @@ impl<S: Store> Workspace<S> {
     pub(crate) fn end_at(&mut self, next: u32)
         ensures { self.new ≡ record { cells = self.old.cells; registers = self.old.registers; state = ended self.old.state next } }
     {
-        if let Some(extent) = self.state {
-            self.state = Some(Extent { next, ..extent });
+        if let Some(extent) = &mut self.state {
+            extent.next = next;
         }
     }
 
