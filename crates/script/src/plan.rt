@@ -34,6 +34,7 @@ impl<'a> Plan<'a> {
         }
     }
 
+    // Whether there has been no step. A plan that had too many is not empty, and has none.
     pub fn is_empty(&self) -> bool
         ensures { result ≡ nothing self.now }
     {

@@ -1,4 +1,4 @@
-// The calls that look at no cell: null, number, copy, divide and same.
+// The check that comes first in every call, and the calls that look at no cell: null, number, copy, divide and same.
 ghost use Rattle.std.specs.Prelude.{◌≡◌, true, is_err, ◌≢◌, slice_index};
 ghost use Rattle.rules.specs.Arena.{desc};
 ghost use Rattle.rules.specs.Calls.{null as rule_null, number as rule_number, copy as rule_copy, divide as rule_divide, same as rule_same};
@@ -76,8 +76,8 @@ impl<S: Store> Workspace<S> {
         ensures exact { Exact (view S.memory self.old) (rule_divide r s q) (answered nothing result) (view S.memory self.new) }
         ensures kept { is_err result ≡ true → self.new ≡ self.old }
     {
-        self.admit(Word::Divide, &[r, s, q])?;
         let call = Word::Divide;
+        self.admit(call, &[r, s, q])?;
         let a = Site { call, register: s }.taken(decoded(self.registers[s as usize]).number())?;
         let b = Site { call, register: q }.taken(decoded(self.registers[q as usize]).number())?;
         let site = Site { call, register: r };
