@@ -6,11 +6,10 @@ ghost use Rattle.heap.specs.Walks.{Slid, Tiled, Tabled, Brought, Packed};
 ghost use Rattle.heap.specs.Moves.{Hits, Ready, Relocating, Relocated, Prepared, Shifting};
 
 use crate::blocks::{Block, Blocks};
-use crate::descriptors::{is_marked, is_pointer};
-use arena::MOST_CELLS;
+use crate::descriptors::{field_cells, is_marked, is_pointer};
 use arena::extent::Extent;
 use arena::faults::{HeapFault, Rule};
-use arena::titles::{cell_of, field_count, new_title, pointer_at, title_of};
+use arena::titles::{cell_of, new_title, pointer_at, title_of};
 use cells::{Descriptor, Store};
 
 // Writes the new cell of each marked title into the table, and gives the first cell that is free then.
@@ -60,11 +59,8 @@ pub fn relocate_block<S: Store>(store: &mut S, block: &Block, work: &[u32]) -> R
         ((k : ℕ) → k < count block.now.title → Ready (S.memory store.old) work.now ((S.memory store.old).descriptor (block.now.at + 1 + k))) →
         ((result ≡ Ok tt) × Relocating (S.memory store.old) work.now block.now.at (count block.now.title) (S.memory store.new)) }
 {
-    let n = field_count(block.title);
-    if n > MOST_CELLS {
-        return Err(HeapFault::Unlawful(Rule::Titles, block.at));
-    }
-    for cell in block.at + 1..block.at + 1 + n {
+    let (first, end) = field_cells(block.at, block.title)?;
+    for cell in first..end {
         let d = store.descriptor(cell)?;
         if is_pointer(d) {
             let moved = forward(store, d, work)?;
