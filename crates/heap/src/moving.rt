@@ -7,6 +7,7 @@ ghost use Rattle.heap.specs.Moves.{Hits, Ready, Relocating, Relocated, Prepared,
 
 use crate::blocks::{Block, Blocks};
 use crate::descriptors::{field_cells, is_marked, is_pointer};
+use arena::blocks::end_of;
 use arena::extent::Extent;
 use arena::faults::{HeapFault, Rule};
 use arena::titles::{cell_of, new_title, pointer_at, title_of};
@@ -103,8 +104,7 @@ pub fn move_registers<S: Store>(
 pub fn slide<S: Store>(store: &mut S, from: u32, to: u32, size: u32) -> Result<(), HeapFault>
     ensures { to ≤ from → from + size ≤ (S.memory store.old).figures.cells → ((result ≡ Ok tt) × Slid (S.memory store.old) from to size (S.memory store.new)) }
 {
-    let cells = store.cells();
-    if to > from || from > cells || size > cells - from {
+    if to > from || end_of(store, from, size).is_err() {
         return Err(HeapFault::Unlawful(Rule::Titles, from));
     }
     if to == from {
