@@ -24,7 +24,7 @@ pub fn fit(n: u32, kind: u32) -> Result<(), HeapFault>
 }
 
 // The first cell after n cells from `at` on, if the store has so many.
-fn end_of<S: Store>(store: &S, at: u32, n: u32) -> Result<u32, HeapFault>
+pub fn end_of<S: Store>(store: &S, at: u32, n: u32) -> Result<u32, HeapFault>
     ensures room { at + n ≤ (S.memory store.now).figures.cells → result ≡ Ok (at + n) }
     ensures full { (S.memory store.now).figures.cells < at + n → result ≡ Err NoRoom }
 {

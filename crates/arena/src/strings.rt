@@ -57,7 +57,7 @@ pub fn precedes(number: u32, link: Descriptor) -> bool
 }
 
 // The title of the string to which a head or link points, or None at the end of a chain.
-pub(crate) fn follow(link: Descriptor) -> Result<Option<u32>, HeapFault>
+pub fn follow(link: Descriptor) -> Result<Option<u32>, HeapFault>
     ensures last { link.flags ≡ 0 → result ≡ Ok None }
     ensures more { (q : ℕ) → link.flags ≡ 16 → link.value ≡ pos q → result ≡ Ok (Some q) }
 {

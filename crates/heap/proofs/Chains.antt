@@ -7,9 +7,9 @@ use Rattle.cells.specs.Meaning.{Memory, Figures, WroteDescriptor, FitDescriptor}
 use Rattle.rules.specs.Lists.{In}
 use Rattle.rules.specs.Model.{string_fields, string_cells}
 use Rattle.rules.specs.Arena.{desc}
-use Rattle.rules.proofs.Coded.{pos_inj}
 use Rattle.arena.specs.Titles.{count, cells_of}
-use Rattle.heap.specs.Marks.{IsBare}
+use Rattle.arena.proofs.Follows.{Leads as Followed, ends, leads}
+use Rattle.heap.specs.Marks.{IsMarked, IsBare}
 use Rattle.heap.specs.declared.blocks.Block.{Block}
 use Rattle.heap.specs.declared.blocks.Blocks.{Blocks}
 use Rattle.heap.specs.Walks.{length_at, Tiled}
@@ -18,55 +18,32 @@ use Rattle.heap.proofs.Paths.{less, equal, more, order_of, lower, next_stop, pos
 use Rattle.heap.proofs.Took.{Took}
 use Rattle.heap.proofs.Values.{count_below}
 
-clash : {A : Type 0} (f : ℕ) → f ≡ 16 → bit_and f 16 ≡ 0 → A
-clash f e z = absurd (let y : bit_and 16 16 ≡ 0 = rw e at z in omega arith)
+module _ (o : Memory) (ts ws : List ℕ) (k : ℕ) (d' : Descriptor) where
+  -- The string with the title q, which comes next, is marked, or the way goes on from its link.
+  pub data Onward (left q : ℕ) : Type 0 where
+    kept : IsMarked o q → q < length ws → get_or ws q 0 ≤ 65535 → d' ≡ desc (pos (get_or ws q 0)) 16 k → Onward left q
+    bare : IsBare o q → 0 < left → ((n : ℕ) → left ≤ n + 1 → Leading o ts ws k d' (o.descriptor (link_cell q)) n) → Onward left q
 
-clear : {A : Type 0} (f : ℕ) → f ≡ 0 → bit_and f 16 ≢ 0 → A
-clear f e z = absurd (z (rw e refl))
+  -- The chain ends, or there is a next string.
+  pub ways : (d : Descriptor) (left : ℕ) → Leading o ts ws k d' d left →
+      Followed d (desc (pos 0) 0 k ≡ d') (λ (q : ℕ). (link_cell q < o.figures.cells) × Onward left q)
+  ways d left s = by s.turns d s.few s.leads
+    where
+      by : (n : ℕ) (x : Descriptor) → n ≤ left → Leads o ts ws k d' n x →
+          Followed x (desc (pos 0) 0 k ≡ d') (λ (q : ℕ). (link_cell q < o.figures.cells) × Onward left q)
+      by n x w (to_end f e) = ends f (sym e)
+      by n x w (to_kept q j m l h e) = leads q j.flag j.value (j.within, kept m l h e)
+      by n x w (past i q l j m r) = leads q j.flag j.value (j.within, bare m (omega arith) (λ n few. record { turns = i; few = omega arith; leads = r }))
 
-module _ (o : Memory) (ts ws : List ℕ) where
-  module _ (k : ℕ) (d' d : Descriptor) (left : ℕ) (s : Leading o ts ws k d' d left) where
-    -- The chain ends,
-    pub leading_end : bit_and d.flags 16 ≡ 0 → desc (pos 0) 0 k ≡ d'
-    leading_end z = by s.turns d s.leads z
-      where
-        by : (n : ℕ) (x : Descriptor) → Leads o ts ws k d' n x → bit_and x.flags 16 ≡ 0 → desc (pos 0) 0 k ≡ d'
-        by n x (to_end f e) z = sym e
-        by n x (to_kept q j m l h e) z = clash _ j.flag z
-        by n x (past i q l j m r) z = clash _ j.flag z
+  pub way_kept : (left q : ℕ) (t : Descriptor) → t ≡ o.descriptor q → bit_and t.flags 8 ≢ 0 → Onward left q →
+      (q < length ws) × (get_or ws q 0 ≤ 65535) × (d' ≡ desc (pos (get_or ws q 0)) 16 k)
+  way_kept left q t read m (kept y l h e) = (l, h, e)
+  way_kept left q t read m (bare y z f) = absurd (m (rw read y))
 
-    -- or there is a next string:
-    pub leading_joins : bit_and d.flags 16 ≢ 0 → (q : ℕ) × Joins o ts d q
-    leading_joins z = by s.turns d s.leads z
-      where
-        by : (n : ℕ) (x : Descriptor) → Leads o ts ws k d' n x → bit_and x.flags 16 ≢ 0 → (q : ℕ) × Joins o ts x q
-        by n x (to_end f e) z = clear _ f z
-        by n x (to_kept q j m l h e) z = (q, j)
-        by n x (past i q l j m r) z = (q, j)
-
-    joins_one : (x : Descriptor) (q p : ℕ) → Joins o ts x q → x.value ≡ pos p → q ≡ p
-    joins_one x q p j e = pos_inj q p (sym j.value ∙ e)
-
-    -- a marked one,
-    pub leading_kept : (p : ℕ) (t : Descriptor) → bit_and d.flags 16 ≢ 0 → d.value ≡ pos p → t ≡ o.descriptor p → bit_and t.flags 8 ≢ 0 →
-        (p < length ws) × (get_or ws p 0 ≤ 65535) × (d' ≡ desc (pos (get_or ws p 0)) 16 k)
-    leading_kept p t z v read m = by s.turns d s.leads z v
-      where
-        by : (n : ℕ) (x : Descriptor) → Leads o ts ws k d' n x → bit_and x.flags 16 ≢ 0 → x.value ≡ pos p → (p < length ws) × (get_or ws p 0 ≤ 65535) × (d' ≡ desc (pos (get_or ws p 0)) 16 k)
-        by n x (to_end f e) z v = clear _ f z
-        by n x (to_kept q j y l h e) z v = let i = joins_one x q p j v in rw (← i) (l, h, e)
-        by n x (past u q l j y r) z v = absurd (m (rw read (rw (joins_one x q p j v) at y)))
-
-    -- or one that is not marked.
-    pub leading_more : (p : ℕ) (t d'' : Descriptor) → bit_and d.flags 16 ≢ 0 → d.value ≡ pos p → t ≡ o.descriptor p → bit_and t.flags 8 ≡ 0 → d'' ≡ o.descriptor (link_cell p) →
-        (0 < left) × ((n : ℕ) → left ≤ n + 1 → Leading o ts ws k d' d'' n)
-    leading_more p t d'' z v read m link = by s.turns d s.few s.leads z v
-      where
-        by : (n : ℕ) (x : Descriptor) → n ≤ left → Leads o ts ws k d' n x → bit_and x.flags 16 ≢ 0 → x.value ≡ pos p → (0 < left) × ((n : ℕ) → left ≤ n + 1 → Leading o ts ws k d' d'' n)
-        by n x w (to_end f e) z v = clear _ f z
-        by n x w (to_kept q j y l h e) z v = absurd (y (rw (joins_one x q p j v) (rw read at m)))
-        by n x w (past i q l j y r) z v =
-            (omega arith, λ m few. record { turns = i; few = omega arith; leads = subst (λ (e : Descriptor). Leads o ts ws k d' i e) (ap (λ (c : ℕ). o.descriptor (link_cell c)) (joins_one x q p j v) ∙ sym link) r })
+  pub way_bare : (left q : ℕ) (t : Descriptor) → t ≡ o.descriptor q → bit_and t.flags 8 ≡ 0 → Onward left q →
+      (0 < left) × ((n : ℕ) → left ≤ n + 1 → Leading o ts ws k d' (o.descriptor (link_cell q)) n)
+  way_bare left q t read m (kept y l h e) = absurd (y (rw read at m))
+  way_bare left q t read m (bare y z f) = (z, f)
 
 -- A way depends on titles and on the links of strings that are not marked.
 pub leads_same : (o r : Memory) (ts ws : List ℕ) (k : ℕ) (d' : Descriptor) → r.figures ≡ o.figures → ((q : ℕ) → In q ts → (r.descriptor q).flags ≡ (o.descriptor q).flags) →

@@ -1,5 +1,5 @@
 -- An `Ok` is one value, and no `Err`.
-use Rattle.std.proofs.Common.{◌≡◌, ℕ, Ok, Err, Result, sym, refl, subst, arith}
+use Rattle.std.proofs.Common.{◌≡◌, ℕ, Ok, Err, Result, sym, refl, ap, subst, arith}
 use Rattle.arena.specs.declared.faults.HeapFault.{HeapFault}
 use Rattle.heap.specs.Regeneration.{Gives}
 
@@ -13,3 +13,6 @@ ok_not_err {A} {E} {C} {r} {a} {x} p q = absurd (let z : ◌≡◌ {A = ℕ} 0 1
 pub gives : {A : Type 0} (P : A → Type 0) (r : Result A HeapFault) (x : A) → r ≡ Ok x → P x → Gives P r
 gives P (Ok y) x e p = subst P (sym (ok_same y x e)) p
 gives P (Err f) x e p = ok_not_err e refl
+
+pub ok_both : {A B : Type 0} (x x' : A) (y y' : B) {E : Type 0} → ◌≡◌ {A = Result (A × B) E} (Ok (x, y)) (Ok (x', y')) → (x ≡ x') × (y ≡ y')
+ok_both {A} {B} x x' y y' e = let p = ok_same (x, y) (x', y') e in (ap (λ (z : A × B). z.0) p, ap (λ (z : A × B). z.1) p)

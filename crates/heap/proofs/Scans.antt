@@ -1,5 +1,5 @@
 -- The fields of one block, and the whole queue.
-use Rattle.std.proofs.Common.{◌≡◌, ℕ, ◌+◌, ◌-◌, ◌<◌, ◌≤◌, ◌≢◌, ◌⊎◌, List, get_or, refl, ap, ◌∙◌, ⊎_elim, arith}
+use Rattle.std.proofs.Common.{◌≡◌, ℕ, ◌+◌, ◌-◌, ◌<◌, ◌≤◌, ◌≢◌, ◌⊎◌, List, get_or, Result, Ok, refl, ap, ◌∙◌, ⊎_elim, arith}
 use native.Mathlib.Decide.{dec_lt, ℕ_discrete}
 use lib.Bits.{bit_and}
 use Rattle.cells.specs.declared.Descriptor.{Descriptor}
@@ -9,6 +9,8 @@ use Rattle.rules.specs.Lists.{In}
 use Rattle.rules.specs.Arena.{null_desc}
 use Rattle.arena.specs.Titles.{count, with_mark}
 use Rattle.heap.specs.Marks.{Aims, Valued, plain, pointer, Queued, still, marked, Queue, Grew, Added, Visited, Scanned, Reached, root, along, Drained, Marked, Registered, Holding}
+use Rattle.arena.specs.declared.faults.HeapFault.{HeapFault}
+use Rattle.heap.proofs.Outcomes.{ok_both}
 use Rattle.heap.proofs.Queues.{flags_of}
 
 pub in_grown : (ws ws' : List ℕ) (n n' q : ℕ) → Grew ws n ws' n' → Queued ws n q → Queued ws' n' q
@@ -29,6 +31,17 @@ module _ (m : Memory) (ts : List ℕ) (ws : List ℕ) (n : ℕ) (o : Memory) (a 
     where
       same_count : count (with_mark (m.descriptor p)) ≡ count (m.descriptor p)
       same_count = rw (flags_of _ (a.ground.titled p h).flag).alike
+
+  -- Its fields are as many cells.
+  pub fields_now : (p f e : ℕ) (d : Descriptor) → In p ts → d ≡ o.descriptor p → o.figures.cells ≤ 65535 →
+      (p + 1 + count d < 4294967296 → ◌≡◌ {A = Result (ℕ × ℕ) HeapFault} (Ok (f, e)) (Ok (p + 1, p + 1 + count d))) →
+      (f ≡ p + 1) × (e ≡ p + 1 + count (m.descriptor p))
+  fields_now p f e d h r few given =
+      let n = count_now p d h r in
+      let i = ap (λ (x : Figures). x.cells) a.figures in
+      let w = (a.ground.titled p h).within in
+      let b = ok_both _ _ _ _ (given (omega arith)) in
+      (b.0, let z = b.1 in omega arith)
 
   -- A field is as it was.
   pub field_now : (p k : ℕ) → In p ts → k < count (m.descriptor p) → o.descriptor (p + 1 + k) ≡ m.descriptor (p + 1 + k)

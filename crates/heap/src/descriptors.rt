@@ -1,8 +1,10 @@
 // What marking and moving ask of a descriptor.
-ghost use Rattle.std.specs.Prelude.{◌≡◌, true, false, ◌≢◌, ◌⊎◌, pos, bit_and};
+ghost use Rattle.std.specs.Prelude.{◌≡◌, ◌+◌, ◌<◌, ◌^◌, true, false, ◌≢◌, ◌⊎◌, pos, bit_and, Ok};
 ghost use Rattle.rules.specs.Arena.{desc, null_desc};
+ghost use Rattle.arena.specs.Titles.{count};
 
-use arena::titles::is_null;
+use arena::faults::{HeapFault, Rule};
+use arena::titles::{field_count, is_null};
 use arena::{MARK, POINTER, STRING};
 use cells::Descriptor;
 
@@ -36,6 +38,17 @@ pub fn holds(value: Descriptor, label: Descriptor) -> bool
     ensures no { result ≡ false → (value ≡ null_desc) × (label ≡ null_desc) }
 {
     !is_null(value) || !is_null(label)
+}
+
+// The first cell of the fields of the block with this title, and the first cell after them.
+pub fn field_cells(at: u32, title: Descriptor) -> Result<(u32, u32), HeapFault>
+    ensures { at + 1 + count title < 2 ^ 32 → result ≡ Ok (at + 1, at + 1 + count title) }
+{
+    let first = at.saturating_add(1);
+    let end = first
+        .checked_add(field_count(title))
+        .ok_or(HeapFault::Unlawful(Rule::Titles, at))?;
+    Ok((first, end))
 }
 
 // A head or link behind which no string is left.

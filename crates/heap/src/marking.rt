@@ -10,11 +10,11 @@ ghost use Rattle.heap.specs.Regeneration.{Gives, Shown, Traced};
 ghost use Rattle.heap.specs.Walks.{Tiled, Searched};
 
 use crate::blocks::{Block, Blocks};
-use crate::descriptors::{holds, is_marked, is_pointer, is_string};
+use crate::descriptors::{field_cells, holds, is_marked, is_pointer, is_string};
 use arena::extent::Extent;
 use arena::faults::{HeapFault, Rule};
-use arena::titles::{cell_of, field_count, marked, title_of};
-use cells::{Descriptor, MOST_CELLS, Store};
+use arena::titles::{cell_of, marked, title_of};
+use cells::{Descriptor, Store};
 
 // A queue of marked titles, none twice, that only grows: the entries of a lent list below the tail.
 #[derive(Drop)]
@@ -62,11 +62,8 @@ impl WorkList<'_> {
             ((result ≡ Ok tt) × Scanned m ts title (count (m.descriptor title)) self.old.titles.now self.old.tail self.new.titles.now self.new.tail (S.memory store.new)) }
         ensures same_list { self.new.titles.ghost_name ≡ self.old.titles.ghost_name }
     {
-        let n = field_count(store.descriptor(title)?);
-        if n > MOST_CELLS {
-            return Err(HeapFault::Unlawful(Rule::Titles, title));
-        }
-        for cell in title + 1..title + 1 + n {
+        let (first, end) = field_cells(title, store.descriptor(title)?)?;
+        for cell in first..end {
             let d = store.descriptor(cell)?;
             self.visit(store, d)?;
         }

@@ -6,11 +6,12 @@ ghost use Rattle.heap.specs.Walks.{Slid, Tiled, Tabled, Brought, Packed};
 ghost use Rattle.heap.specs.Moves.{Hits, Ready, Relocating, Relocated, Prepared, Shifting};
 
 use crate::blocks::{Block, Blocks};
-use crate::descriptors::{is_marked, is_pointer};
+use crate::descriptors::{field_cells, is_marked, is_pointer};
+use arena::blocks::end_of;
 use arena::extent::Extent;
 use arena::faults::{HeapFault, Rule};
-use arena::titles::{cell_of, field_count, new_title, pointer_at, title_of};
-use cells::{Descriptor, MOST_CELLS, Store};
+use arena::titles::{cell_of, new_title, pointer_at, title_of};
+use cells::{Descriptor, Store};
 
 // Writes the new cell of each marked title into the table, and gives the first cell that is free then.
 pub fn layout<S: Store>(store: &S, extent: Extent, work: &mut [u32]) -> Result<u32, HeapFault>
@@ -59,11 +60,8 @@ pub fn relocate_block<S: Store>(store: &mut S, block: &Block, work: &[u32]) -> R
         ((k : ℕ) → k < count block.now.title → Ready (S.memory store.old) work.now ((S.memory store.old).descriptor (block.now.at + 1 + k))) →
         ((result ≡ Ok tt) × Relocating (S.memory store.old) work.now block.now.at (count block.now.title) (S.memory store.new)) }
 {
-    let n = field_count(block.title);
-    if n > MOST_CELLS {
-        return Err(HeapFault::Unlawful(Rule::Titles, block.at));
-    }
-    for cell in block.at + 1..block.at + 1 + n {
+    let (first, end) = field_cells(block.at, block.title)?;
+    for cell in first..end {
         let d = store.descriptor(cell)?;
         if is_pointer(d) {
             let moved = forward(store, d, work)?;
@@ -106,8 +104,7 @@ pub fn move_registers<S: Store>(
 pub fn slide<S: Store>(store: &mut S, from: u32, to: u32, size: u32) -> Result<(), HeapFault>
     ensures { to ≤ from → from + size ≤ (S.memory store.old).figures.cells → ((result ≡ Ok tt) × Slid (S.memory store.old) from to size (S.memory store.new)) }
 {
-    let cells = store.cells();
-    if to > from || from > cells || size > cells - from {
+    if to > from || end_of(store, from, size).is_err() {
         return Err(HeapFault::Unlawful(Rule::Titles, from));
     }
     if to == from {

@@ -7,12 +7,13 @@ ghost use Rattle.heap.specs.Walks.{Tiled};
 ghost use Rattle.heap.specs.Threads.{Led, Linkable, Threading, Headed, Heading};
 
 use crate::blocks::Blocks;
-use crate::descriptors::{is_marked, is_pointer, is_string, last_link};
+use crate::descriptors::{is_marked, is_string, last_link};
 use crate::moving::new_cell;
-use arena::STRING_FIELDS;
+use arena::LINK;
 use arena::extent::Extent;
 use arena::faults::{HeapFault, Rule};
-use arena::titles::{cell_of, pointer_at};
+use arena::strings::follow;
+use arena::titles::pointer_at;
 use cells::{Descriptor, Store};
 
 // A head or a link, past the strings that are not marked, to the new cell of the next one.
@@ -21,17 +22,16 @@ pub fn relinked<S: Store>(store: &S, d: Descriptor, work: &[u32]) -> Result<Desc
 {
     let mut link = d;
     for _ in 0..=store.cells() {
-        if !is_pointer(link) {
+        let Some(at) = follow(link)? else {
             return Ok(last_link(d));
-        }
-        let at = cell_of(link)?;
+        };
         let t = store.descriptor(at)?;
         if is_marked(t) {
             return pointer_at(new_cell(work, at)?, d.kind);
         }
-        link = store.descriptor(at + 1 + STRING_FIELDS)?;
+        link = store.descriptor(at + LINK)?;
     }
-    Err(HeapFault::Unlawful(Rule::Chains, link.value.unsigned_abs()))
+    Err(HeapFault::Unlawful(Rule::Chains, 0))
 }
 
 // Gives one head or link its new value.
@@ -54,7 +54,7 @@ pub fn thread_links<S: Store>(store: &mut S, extent: Extent, work: &[u32]) -> Re
     let mut blocks = Blocks::of(extent)?;
     while let Some(block) = blocks.step(store)? {
         if is_marked(block.title) && is_string(block.title) {
-            relink(store, block.at + 1 + STRING_FIELDS, work)?;
+            relink(store, block.at + LINK, work)?;
         }
     }
     Ok(())

@@ -1,4 +1,5 @@
-use Rattle.std.proofs.Common.{refl, ◌∙◌, inl, inr}
+use Rattle.std.proofs.Common.{◌≡◌, ◌+◌, refl, ◌∙◌, inl, inr, arith}
+use Rattle.heap.specs.Threads.{link_cell}
 use Rattle.heap.proofs.Outcomes.{ok_not_err}
 use Rattle.heap.proofs.Took.{standing, took, over}
 use Rattle.heap.proofs.Chains.{threading_titles, link_below, link_led, threading_skip, threading_keep}
@@ -15,7 +16,8 @@ returns-in_err-relink g c ts link a lk =
     let s = c.loop-block.invariant.1 ts link a lk in
     let t = took (standing a c.loop-block.invariant.0 s.stop s.figures (threading_titles _ ts _ _ a link _ _ s _)) c.in-Some.is c.in_ok-block.ensures.passed c.in_ok-block.ensures.walked in
     let m = (c.is_marked.ensures.yes c.if-is_marked.true) in let f = (c.is_string.ensures.yes c.if-is_string.true) in
-    ok_not_err (c.relink.ensures ts _ (link_below _ ts _ _ a link _ _ _ _ t s m f) (link_led _ ts _ _ a link _ _ _ _ t s m f _ lk)).0 c.in_err-relink.was
+    let e : c.in-Some.block.at + 3 ≡ link_cell c.in-Some.block.at = omega arith in
+    ok_not_err ((rw e at c.relink.ensures) ts _ (link_below _ ts _ _ a link _ _ _ _ t s m f) (link_led _ ts _ _ a link _ _ _ _ t s m f _ lk)).0 c.in_err-relink.was
 
 pub loop-block-preserved-then-is_string : goal.loop-block-preserved-then-is_string
 loop-block-preserved-then-is_string g c =
@@ -25,8 +27,9 @@ loop-block-preserved-then-is_string g c =
           let s = c.loop-block.invariant.1 ts link a lk in
           let t = took (standing a c.loop-block.invariant.0 s.stop s.figures (threading_titles _ ts _ _ a link _ _ s _)) c.in-Some.is c.in_ok-block.ensures.passed c.in_ok-block.ensures.walked in
           let m = (c.is_marked.ensures.yes c.if-is_marked.true) in let f = (c.is_string.ensures.yes c.if-is_string.true) in
+          let e : c.in-Some.block.at + 3 ≡ link_cell c.in-Some.block.at = omega arith in
           threading_keep _ ts _ _ a link _ _ _ _ t s m f _
-          (c.relink.ensures ts _ (link_below _ ts _ _ a link _ _ _ _ t s m f) (link_led _ ts _ _ a link _ _ _ _ t s m f _ lk)).1,
+          ((rw e at c.relink.ensures) ts _ (link_below _ ts _ _ a link _ _ _ _ t s m f) (link_led _ ts _ _ a link _ _ _ _ t s m f _ lk)).1,
     )
 
 pub loop-block-preserved : goal.loop-block-preserved
