@@ -21,7 +21,7 @@ pub fn place_for<S: Store>(store: &S, head: u32, number: u32) -> Result<u32, Hea
     ensures { (p : ℕ) → Backward (S.memory store.now) number head (S.memory store.now).figures.cells p → result ≡ Ok p }
 {
     let mut cell = head;
-    for _turn in 0..=store.cells() {
+    for _ in 0..=store.cells() {
         let Some(title) = follow(store.descriptor(cell)?)? else {
             return Ok(cell);
         };
