@@ -1,5 +1,5 @@
 // Entering a string at the first free cell, behind all of its chain whose number is not greater.
-ghost use Rattle.std.specs.Prelude.{◌≡◌, ℕ, ◌+◌, ◌*◌, ◌≤◌, length, pos, Ok};
+ghost use Rattle.std.specs.Prelude.{◌≡◌, ℕ, ◌+◌, ◌*◌, ◌≤◌, length, Ok};
 ghost use Rattle.cells.specs.Meaning.{FitDescriptor};
 ghost use Rattle.rules.specs.Keys.{bin, ascension};
 ghost use Rattle.rules.specs.Model.{Model, string, string_fields, string_cells};
