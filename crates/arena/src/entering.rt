@@ -1,5 +1,5 @@
 // Entering a string at the first free cell, behind all of its chain whose number is not greater.
-ghost use Rattle.std.specs.Prelude.{◌≡◌, ℕ, ◌+◌, ◌*◌, ◌≤◌, length, pos, Ok};
+ghost use Rattle.std.specs.Prelude.{◌≡◌, ℕ, ◌+◌, ◌*◌, ◌≤◌, length, Ok};
 ghost use Rattle.cells.specs.Meaning.{FitDescriptor};
 ghost use Rattle.rules.specs.Keys.{bin, ascension};
 ghost use Rattle.rules.specs.Model.{Model, string, string_fields, string_cells};
@@ -21,7 +21,7 @@ pub fn place_for<S: Store>(store: &S, head: u32, number: u32) -> Result<u32, Hea
     ensures { (p : ℕ) → Backward (S.memory store.now) number head (S.memory store.now).figures.cells p → result ≡ Ok p }
 {
     let mut cell = head;
-    for _turn in 0..=store.cells() {
+    for _ in 0..=store.cells() {
         let Some(title) = follow(store.descriptor(cell)?)? else {
             return Ok(cell);
         };

@@ -77,7 +77,7 @@ pub fn seek<S: Store>(
     ensures { (p : Opt ℕ) → Sought (S.memory store.now) text.now number head (S.memory store.now).figures.cells p → result ≡ Ok p }
 {
     let mut link = head;
-    for _turn in 0..=store.cells() {
+    for _ in 0..=store.cells() {
         let Some(title) = follow(link)? else {
             return Ok(None);
         };

@@ -80,7 +80,7 @@ pub fn cells_of(d: Descriptor, places: u32) -> Result<u32, HeapFault>
     ensures exact { 1 ≤ d.kind → d.kind ≤ 65535 → 1 ≤ places → result ≡ Ok (cells_of places d) }
     ensures some { IfOk result (λ n. (1 ≤ n) × (n ≤ 65540)) }
 {
-    if d.kind == 0 || d.kind > MOST_CELLS || places == 0 {
+    if !(1..=MOST_CELLS).contains(&d.kind) || places == 0 {
         return Err(HeapFault::Unlawful(Rule::Titles, 0));
     }
     if d.flags & STRING == 0 {

@@ -10,7 +10,7 @@ use Rattle.rules.specs.Arena.{null_desc}
 use Rattle.arena.specs.Titles.{count, with_mark}
 use Rattle.heap.specs.Marks.{Aims, Valued, plain, pointer, Queued, still, marked, Queue, Grew, Added, Visited, Scanned, Reached, root, along, Drained, Marked, Registered, Holding}
 use Rattle.arena.specs.declared.faults.HeapFault.{HeapFault}
-use Rattle.heap.proofs.Outcomes.{ok_both}
+use Rattle.heap.proofs.Outcomes.{fields_given}
 use Rattle.heap.proofs.Queues.{flags_of}
 
 pub in_grown : (ws ws' : List ℕ) (n n' q : ℕ) → Grew ws n ws' n' → Queued ws n q → Queued ws' n' q
@@ -40,7 +40,7 @@ module _ (m : Memory) (ts : List ℕ) (ws : List ℕ) (n : ℕ) (o : Memory) (a 
       let n = count_now p d h r in
       let i = ap (λ (x : Figures). x.cells) a.figures in
       let w = (a.ground.titled p h).within in
-      let b = ok_both _ _ _ _ (given (omega arith)) in
+      let b = fields_given p (count d) f e (omega arith) few given in
       (b.0, let z = b.1 in omega arith)
 
   -- A field is as it was.

@@ -6,7 +6,7 @@ ghost use Rattle.rules.specs.Lists.{In};
 ghost use Rattle.rules.specs.Model.{Model};
 ghost use Rattle.arena.specs.Titles.{count};
 ghost use Rattle.heap.specs.Marks.{Valued, Queue, Added, Visited, Scanned, Marked, Registered, Holding};
-ghost use Rattle.heap.specs.Regeneration.{Gives, Shown, Traced};
+ghost use Rattle.heap.specs.Regeneration.{Shown, Traced};
 ghost use Rattle.heap.specs.Walks.{Tiled, Searched};
 
 use crate::blocks::{Block, Blocks};

@@ -11,18 +11,18 @@ use Rattle.arena.proofs.strings.seek.Goals.{In-Some, In_ok-link}
 
 pub returns-in_err-title : goal.returns-in_err-title
 returns-in_err-title g c p w =
-    not_failed c.loop-turn.link c.follow.result c.follow.ensures.last c.follow.ensures.more (sought_leads _ _ _ _ p _ (c.loop-turn.invariant p w).1) c.in_err-title.was
+    not_failed c.loop.link c.follow.result c.follow.ensures.last c.follow.ensures.more (sought_leads _ _ _ _ p _ (c.loop.invariant p w)) c.in_err-title.was
 
 pub returns-in_default : goal.returns-in_default
 returns-in_default g c p w =
-    ap Ok (at_end c.loop-turn.link c.follow.result c.follow.ensures.last c.follow.ensures.more (sought_leads _ _ _ _ p _ (c.loop-turn.invariant p w).1)
+    ap Ok (at_end c.loop.link c.follow.result c.follow.ensures.last c.follow.ensures.more (sought_leads _ _ _ _ p _ (c.loop.invariant p w))
     (c.in_ok-title.was ∙ ap Ok c.in_default.is))
 
 next : (g : _) (c : In-Some g) (p : Option ℕ) → Sought (g.S.Store.memory c.args.store.now) c.args.text.now c.args.number c.args.head (g.S.Store.memory c.args.store.now).figures.cells p →
-    (0 < (g.S.Store.memory c.args.store.now).figures.cells - c.loop-turn._turn) × Readable (g.S.Store.memory c.args.store.now) c.in-Some.title ×
-    Comes (g.S.Store.memory c.args.store.now) c.args.text.now c.args.number ((g.S.Store.memory c.args.store.now).figures.cells - c.loop-turn._turn) p c.in-Some.title
+    (0 < c.cells-end.result - c.loop.counter) × Readable (g.S.Store.memory c.args.store.now) c.in-Some.title ×
+    Comes (g.S.Store.memory c.args.store.now) c.args.text.now c.args.number (c.cells-end.result - c.loop.counter) p c.in-Some.title
 next g c p w =
-    at_next c.loop-turn.link c.follow.result c.follow.ensures.last c.follow.ensures.more c.in-Some.title (sought_leads _ _ _ _ p _ (c.loop-turn.invariant p w).1)
+    at_next c.loop.link c.follow.result c.follow.ensures.last c.follow.ensures.more c.in-Some.title (sought_leads _ _ _ _ p _ (c.loop.invariant p w))
     (c.in_ok-title.was ∙ ap Ok c.in-Some.is)
 
 pub returns-in_err-spells : goal.returns-in_err-spells
@@ -53,13 +53,11 @@ returns-then-precedes g c p w =
     ap Ok (comes_stopped _ _ _ _ p _ j.2 (not_so _ c.if-branch.false (c.in_ok-spells.ensures j.1).0) _ (read g (goal.at.returns-then-precedes g c).In_ok-link j.1)
     (ltb-true _ _ (sym c.precedes.ensures ∙ c.if-precedes.true)))
 
-pub loop-turn-preserved : goal.loop-turn-preserved
-loop-turn-preserved g c p w =
-    let j = next g (goal.at.loop-turn-preserved g c).In-Some p w in let z = j.0 in (
-      omega arith,
-      comes_on _ _ _ _ p _ j.2 (not_so _ c.if-branch.false (c.in_ok-spells.ensures j.1).0) _ (read g (goal.at.loop-turn-preserved g c).In_ok-link j.1)
-          _ (omega arith) (ltb-false _ _ (sym c.precedes.ensures ∙ c.if-precedes.false)),
-    )
+pub loop-preserved : goal.loop-preserved
+loop-preserved g c p w =
+    let j = next g (goal.at.loop-preserved g c).In-Some p w in let z = j.0 in
+    comes_on _ _ _ _ p _ j.2 (not_so _ c.if-branch.false (c.in_ok-spells.ensures j.1).0) _ (read g (goal.at.loop-preserved g c).In_ok-link j.1)
+    _ (omega arith) (ltb-false _ _ (sym c.precedes.ensures ∙ c.if-precedes.false))
 
 pub returns-else-precedes : goal.returns-else-precedes
 returns-else-precedes g c p w =

@@ -1,19 +1,15 @@
-use Rattle.std.proofs.Common.{◌≡◌, ℕ, ◌+◌, ◌-◌, ◌<◌, ◌≤◌, Result, Ok, refl, ap, ◌∙◌, arith}
+use Rattle.std.proofs.Common.{◌≡◌, ◌+◌, ◌-◌, refl, ap, ◌∙◌, arith}
 use Rattle.cells.proofs.Acts.{descriptor_written}
 use Rattle.arena.specs.Titles.{count}
-use Rattle.arena.specs.declared.faults.HeapFault.{HeapFault}
-use Rattle.heap.proofs.Outcomes.{ok_same, ok_not_err, ok_both}
+use Rattle.heap.proofs.Outcomes.{ok_same, ok_not_err, fields_given}
 use Rattle.heap.proofs.Values.{ready_field, read_field, forward_gives, fits_new, relocating_more, relocating_same}
 use Rattle.heap.proofs.moving.relocate_block.Goals as goal
 use Rattle.heap.proofs.moving.relocate_block.Goals.{then-is_pointer+in_ok-moved+in_ok-set_descriptor, else-is_pointer}
 
-fields : (p f e n : ℕ) {cells : ℕ} → p + n < cells → cells ≤ 65535 → (p + 1 + n < 4294967296 → ◌≡◌ {A = Result (ℕ × ℕ) HeapFault} (Ok (f, e)) (Ok (p + 1, p + 1 + n))) → (f ≡ p + 1) × (e ≡ p + 1 + n)
-fields p f e n l few given = ok_both _ _ _ _ (given (omega arith))
-
 pub returns-in_err-moved : goal.returns-in_err-moved
 returns-in_err-moved g c b re =
     let s = c.loop-cell.invariant b re in
-    let n = fields c.args.block.now.at _ _ _ b (g.met.S.Store.sound c.args.store.now).few c.in_ok-first.ensures in let f = n.0 in let u = n.1 in
+    let n = fields_given c.args.block.now.at _ _ _ b (g.met.S.Store.sound c.args.store.now).few c.in_ok-first.ensures in let f = n.0 in let u = n.1 in
     let de = c.in_ok-d.ensures.1 ∙ read_field _ _ _ c.loop-cell.cell (omega arith) _ s in
     let w = forward_gives _ _ _ c.loop-cell.cell (omega arith) _ s _ de _ c.forward.ensures.plain c.forward.ensures.moved (ready_field _ _ _ _ re c.loop-cell.cell (omega arith) (omega arith)) in
     ok_not_err w.1 c.in_err-moved.was
@@ -21,7 +17,7 @@ returns-in_err-moved g c b re =
 pub returns-in_err-set_descriptor : goal.returns-in_err-set_descriptor
 returns-in_err-set_descriptor g c b re =
     let s = c.loop-cell.invariant b re in
-    let n = fields c.args.block.now.at _ _ _ b (g.met.S.Store.sound c.args.store.now).few c.in_ok-first.ensures in let f = n.0 in let u = n.1 in
+    let n = fields_given c.args.block.now.at _ _ _ b (g.met.S.Store.sound c.args.store.now).few c.in_ok-first.ensures in let f = n.0 in let u = n.1 in
     let de = c.in_ok-d.ensures.1 ∙ read_field _ _ _ c.loop-cell.cell (omega arith) _ s in
     let w = forward_gives _ _ _ c.loop-cell.cell (omega arith) _ s _ de _ c.in_ok-moved.ensures.plain c.in_ok-moved.ensures.moved (ready_field _ _ _ _ re c.loop-cell.cell (omega arith) (omega arith)) in
     let ft = fits_new _ _ _ c.loop-cell.cell (omega arith) _ s _ de _ (rw (← (ok_same _ _ w.1)) at w.2) (g.met.S.Store.sound c.loop-cell.store) (omega arith) in
@@ -30,7 +26,7 @@ returns-in_err-set_descriptor g c b re =
 pub loop-cell-preserved : goal.loop-cell-preserved
 loop-cell-preserved g c b re =
     let s = c.loop-cell.invariant b re in
-    let n = fields c.args.block.now.at _ _ _ b (g.met.S.Store.sound c.args.store.now).few c.in_ok-first.ensures in let f = n.0 in let u = n.1 in
+    let n = fields_given c.args.block.now.at _ _ _ b (g.met.S.Store.sound c.args.store.now).few c.in_ok-first.ensures in let f = n.0 in let u = n.1 in
     let de = c.in_ok-d.ensures.1 ∙ read_field _ _ _ c.loop-cell.cell (omega arith) _ s in
     let rf = ready_field _ _ _ _ re c.loop-cell.cell (omega arith) (omega arith) in
     elim c.if-is_pointer.branch [
@@ -46,6 +42,6 @@ loop-cell-preserved g c b re =
 
 pub returns : goal.returns
 returns g c b re =
-    let n = fields c.args.block.now.at _ _ _ b (g.met.S.Store.sound c.args.store.now).few c.in_ok-first.ensures in let f = n.0 in let u = n.1 in
+    let n = fields_given c.args.block.now.at _ _ _ b (g.met.S.Store.sound c.args.store.now).few c.in_ok-first.ensures in let f = n.0 in let u = n.1 in
     let k : c.loop-cell.cell - (c.args.block.now.at + 1) ≡ count c.args.block.now.title = omega arith in
     (refl, rw k at (c.loop-cell.invariant b re))
