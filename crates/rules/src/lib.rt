@@ -2,7 +2,7 @@
 // The rules of the names workspace, as definitions that contracts cite.
 
 ghost use Rattle.rules.specs.Compared.{Compared, Determined, Runs, Unaltered};
-ghost use Rattle.std.specs.Prelude.{◌≡◌, ◌+◌, ◌-◌, ◌*◌, ◌%◌, ◌<◌, if◌then◌else◌, Some, None};
+ghost use Rattle.std.specs.Prelude.{◌≡◌, ◌+◌, ◌-◌, ◌*◌, ◌/◌, ◌%◌, ◌<◌, ◌≤◌, if◌then◌else◌, Some, None};
 ghost use Rattle.rules.specs.Model.{string_cells_or_zero, string_cells_within};
 ghost use Rattle.rules.specs.Keys.{key};
 ghost use Rattle.rules.specs.Calls.{first, divides, quotient};
@@ -116,12 +116,20 @@ pub fn free_cells(cells: u32, first: u32) -> u32
     cells.saturating_sub(first)
 }
 
+// The cells that `l` characters fill, `c` to a cell.
+fn filled(l: u32, c: u32) -> u32
+    requires { (1 ≤ l) × (1 ≤ c) }
+    ensures { result ≡ (l - 1) / c + 1 }
+{
+    l.div_ceil(c)
+}
+
 // The cells of a string of `l` characters at `c` to a cell, where there can be such a string.
 pub fn string_cells(l: u32, c: u32) -> Option<u32>
     ensures { result ≡ string_cells_within l c }
 {
     if (1..=LONGEST_TEXT).contains(&l) && (1..=MOST_PLACES).contains(&c) {
-        Some(4 + l.div_ceil(c))
+        Some(4 + filled(l, c))
     } else {
         None
     }

@@ -46,6 +46,14 @@ impl<'a> Expander<'a> {
         self.plan.push(step)
     }
 
+    // The form of a line, whose bracket has been read.
+    fn line_form(&mut self) -> Result<(), ReaderFault>
+        ensures forms { ReadsForm result 15 self.old self.new }
+        ensures shorter { Shortens result self.old.reader self.new.reader }
+    {
+        self.form(INNER)
+    }
+
     // One line: a form, or none.
     #[tactic(auto, using(crate::proofs::Lined::lined_form, crate::proofs::Lined::lined_none))]
     fn line(&mut self) -> Result<(), ReaderFault>
@@ -53,7 +61,7 @@ impl<'a> Expander<'a> {
         ensures eats { Eats result self.old.reader self.new.reader }
     {
         if self.reader.outside()? {
-            self.form(INNER)?;
+            self.line_form()?;
             self.reader.line_end()?;
         }
         Ok(())
