@@ -31,7 +31,7 @@ pub fn place_for<S: Store>(store: &S, head: u32, number: u32) -> Result<u32, Hea
         }
         cell = link;
     }
-    Err(HeapFault::Unlawful(Rule::Links, cell))
+    Err(HeapFault::Unlawful(Rule::Chains, cell))
 }
 
 // The code at one place of a string: after the last character stands the lowest.

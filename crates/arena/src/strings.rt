@@ -89,7 +89,7 @@ pub fn seek<S: Store>(
             return Ok(None);
         }
     }
-    Err(HeapFault::Unlawful(Rule::Links, 0))
+    Err(HeapFault::Unlawful(Rule::Chains, 0))
 }
 
 // The title of the string with these characters, if the arena has it.

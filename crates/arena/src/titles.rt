@@ -8,7 +8,7 @@ ghost use Rattle.arena.specs.Stored.{Field};
 ghost use Rattle.arena.specs.Titles.{Back, count, with_mark, cells_of, retitled};
 
 use crate::faults::{HeapFault, Rule};
-use crate::{CHARACTERS, MARK, POINTER, STRING, STRING_FIELDS, TITLE};
+use crate::{CHARACTERS, MARK, NULL, POINTER, STRING, STRING_FIELDS, TITLE};
 use cells::{Descriptor, MOST_CELLS, Store};
 
 // The title before a cell, and the distance to it: the number of the field, if the cell is that of a field.
@@ -96,7 +96,7 @@ pub fn null_value() -> Descriptor
     Descriptor {
         value: 0,
         flags: 0,
-        kind: 1,
+        kind: NULL,
     }
 }
 
