@@ -1,41 +1,15 @@
-use Rattle.std.proofs.Common.{◌≡◌, ℕ, ◌+◌, length, pos, Err, sym, refl, ap, ◌∙◌, subst, arith}
+use Rattle.std.proofs.Common.{◌≡◌, ℕ, ◌+◌, length, pos, sym, refl, ap, ◌∙◌, subst, arith}
 use Rattle.cells.specs.declared.Descriptor.{Descriptor}
 use Rattle.rules.specs.Model.{Value, block}
 use Rattle.rules.specs.Arena.{Codes, desc, as_block}
 use Rattle.rules.specs.Calls.{put_block}
 use Rattle.arena.specs.declared.faults.HeapFault.{HeapFault}
 use Rattle.arena.specs.Growth.{add_block, arena_with_block}
-use Rattle.arena.proofs.Outcomes.{ok_same, ok_not_err}
+use Rattle.arena.proofs.Outcomes.{ok_same}
 use Rattle.workspace.specs.Shown.{view}
-use Rattle.workspace.specs.Rooms.{RoomOf, HasRoom, Grows, Grew}
-use Rattle.workspace.proofs.Steps.{passed}
+use Rattle.workspace.specs.Rooms.{HasRoom, Grew}
 use Rattle.workspace.proofs.Growing.{grew, next_small}
 use Rattle.workspace.proofs.space.Workspace.add_block.Goals as goal
-
-pub returns-in_err-next : goal.returns-in_err-next
-returns-in_err-next g c m a s long n1 n2 t1 t2 =
-    let v = view g.S.Store.memory c.args.self.now in
-    let w = view g.S.Store.memory c.room.new.self in
-    let is : c.saturating_add.result ≡ c.args.n + 1 = omega (arith, c.saturating_add.ensures) in
-    subst (λ r. Grows m a v (c.args.n + 1) (put_block m c.args.r c.args.n c.args.t) (λ b. arena_with_block m b c.args.n) w r)
-    (sym (passed c.from_residual.result _ _ c.from_residual.ensures.1 refl))
-    (subst (λ (k : ℕ). RoomOf m a v k w (Err c.in_err-next.field-0.0)) is (c.in_err-next.ensures m a s long))
-
-pub returns-in_err-end : goal.returns-in_err-end
-returns-in_err-end g c m a s long n1 n2 t1 t2 =
-    let v = view g.S.Store.memory c.args.self.now in
-    let w = view g.S.Store.memory c.room.new.self in
-    let is : c.saturating_add.result ≡ c.args.n + 1 = omega (arith, c.saturating_add.ensures) in
-    let h : HasRoom m a v (c.args.n + 1) w c.in_ok-next.next = subst (λ (k : ℕ). HasRoom m a v k w c.in_ok-next.next) is (c.in_ok-next.ensures m a s long) in
-    ok_not_err (c.make_block.ensures.made m h.arena h.shown.shows h.next_is n1 n2 (omega (arith, h.enough, h.next_is, ap (λ f. f.cells) h.figures))).0 c.in_err-end.was
-
-pub returns-in_err-block : goal.returns-in_err-block
-returns-in_err-block g c m a s long n1 n2 t1 t2 =
-    let v = view g.S.Store.memory c.args.self.now in
-    let w = view g.S.Store.memory c.room.new.self in
-    let is : c.saturating_add.result ≡ c.args.n + 1 = omega (arith, c.saturating_add.ensures) in
-    let h : HasRoom m a v (c.args.n + 1) w c.in_ok-next.next = subst (λ (k : ℕ). HasRoom m a v k w c.in_ok-next.next) is (c.in_ok-next.ensures m a s long) in
-    ok_not_err (c.pointer_at.ensures (next_small m a v (c.args.n + 1) w c.in_ok-next.next (g.met.S.Store.sound c.args.self.now.cells) h)) c.in_err-block.was
 
 pub returns : goal.returns
 returns g c m a s long n1 n2 t1 t2 =

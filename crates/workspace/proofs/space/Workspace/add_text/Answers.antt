@@ -1,4 +1,4 @@
-use Rattle.std.proofs.Common.{ℕ, ◌+◌, length, pos, Err, sym, refl, ◌∙◌, subst}
+use Rattle.std.proofs.Common.{ℕ, ◌+◌, length, pos, sym, ◌∙◌, subst}
 use Rattle.rules.specs.Model.{Value, string_cells}
 use Rattle.rules.specs.Arena.{desc}
 use Rattle.rules.specs.Calls.{put}
@@ -6,28 +6,10 @@ use Rattle.arena.specs.declared.faults.HeapFault.{HeapFault}
 use Rattle.arena.specs.Growth.{arena_with_text}
 use Rattle.arena.proofs.Outcomes.{ok_same, ok_not_err}
 use Rattle.workspace.specs.Shown.{view}
-use Rattle.workspace.specs.Rooms.{RoomOf, HasRoom, Grows, Grew}
-use Rattle.workspace.proofs.Steps.{passed}
+use Rattle.workspace.specs.Rooms.{HasRoom, Grew}
 use Rattle.workspace.proofs.Growing.{next_small}
-use Rattle.workspace.proofs.Entering.{count_is, need_is, fresh, text_grew}
-use Rattle.workspace.proofs.Raises.{none_not_some}
+use Rattle.workspace.proofs.Entering.{need_is, fresh, text_grew}
 use Rattle.workspace.proofs.space.Workspace.add_text.Goals as goal
-
-pub returns-in_err-need : goal.returns-in_err-need
-returns-in_err-need g c m a s long bins some few codes away =
-    let is = count_is (view g.S.Store.memory c.args.self.now).memory c.args.text.now c.places.result (g.met.S.Store.sound c.args.self.now.cells) c.places.ensures some few in
-    none_not_some c.in_err-need.ensures.ok_part (c.string_cells.ensures ∙ is)
-
-pub returns-in_err-next : goal.returns-in_err-next
-returns-in_err-next g c m a s long bins some few codes away =
-    let v = view g.S.Store.memory c.args.self.now in
-    let w = view g.S.Store.memory c.room.new.self in
-    let t = c.args.text.now in
-    let k = string_cells v.memory.figures.places (length t) in
-    let is = need_is v.memory t c.places.result c.in_ok-need.need (g.met.S.Store.sound c.args.self.now.cells) c.places.ensures some few (sym c.string_cells.ensures ∙ c.in_ok-need.ensures.ok_part) in
-    subst (λ r. Grows m a v k (put m c.args.r (Value.text t)) (λ b. arena_with_text v.memory.figures.places b t) w r)
-    (sym (passed c.from_residual-in_err-next.result _ _ c.from_residual-in_err-next.ensures.1 refl))
-    (subst (λ (j : ℕ). RoomOf m a v j w (Err c.in_err-next.field-0.0)) is (c.in_err-next.ensures m a s long))
 
 pub returns-in_err-end : goal.returns-in_err-end
 returns-in_err-end g c m a s long bins some few codes away =
@@ -38,16 +20,6 @@ returns-in_err-end g c m a s long bins some few codes away =
     let is = need_is v.memory t c.places.result c.in_ok-need.need (g.met.S.Store.sound c.args.self.now.cells) c.places.ensures some few (sym c.string_cells.ensures ∙ c.in_ok-need.ensures.ok_part) in
     let h : HasRoom m a v k w c.in_ok-next.next = subst (λ (j : ℕ). HasRoom m a v j w c.in_ok-next.next) is (c.in_ok-next.ensures m a s long) in
     ok_not_err (c.enter_text.ensures.grown m h.arena (fresh m a v w c.in_ok-next.next t h c.args.bins bins some few codes away)).0 c.in_err-end.was
-
-pub returns-in_err-string : goal.returns-in_err-string
-returns-in_err-string g c m a s long bins some few codes away =
-    let v = view g.S.Store.memory c.args.self.now in
-    let w = view g.S.Store.memory c.room.new.self in
-    let t = c.args.text.now in
-    let k = string_cells v.memory.figures.places (length t) in
-    let is = need_is v.memory t c.places.result c.in_ok-need.need (g.met.S.Store.sound c.args.self.now.cells) c.places.ensures some few (sym c.string_cells.ensures ∙ c.in_ok-need.ensures.ok_part) in
-    let h : HasRoom m a v k w c.in_ok-next.next = subst (λ (j : ℕ). HasRoom m a v j w c.in_ok-next.next) is (c.in_ok-next.ensures m a s long) in
-    ok_not_err (c.pointer_at.ensures (next_small m a v k w c.in_ok-next.next (g.met.S.Store.sound c.args.self.now.cells) h)) c.in_err-string.was
 
 pub returns : goal.returns
 returns g c m a s long bins some few codes away =

@@ -17,31 +17,25 @@ use Rattle.workspace.proofs.Steps.{at_door, by_giving, by_refusing, passed, put_
 use Rattle.workspace.proofs.Divisions.{quotient_then, divisor_then, number_fault, number_is, number_not, quotient_some, quotient_none}
 use Rattle.workspace.proofs.space.Workspace.divide.Goals as goal
 
-pub returns-in_err-admit : goal.returns-in_err-admit
-returns-in_err-admit g c =
-    record {
-      exact = at_door (view g.S.Store.memory c.args.self.now) (Call.divide c.args.r c.args.s c.args.q) (c.args.r ∷ c.args.s ∷ c.args.q ∷ []) nothing c.from_residual.result c.in_err-admit.field-0.0
-          c.in_err-admit.ensures (passed c.from_residual.result _ _ c.from_residual.ensures.1 refl) tt refl (λ l m u h. (_, refl));
-      kept = λ _. refl;
-    }
+pub returns-in_err-admit-clause-exact : goal.returns-in_err-admit-clause-exact
+returns-in_err-admit-clause-exact g c =
+    at_door (view g.S.Store.memory c.args.self.now) (Call.divide c.args.r c.args.s c.args.q) (c.args.r ∷ c.args.s ∷ c.args.q ∷ []) nothing c.from_residual.result c.in_err-admit.field-0.0
+    c.in_err-admit.ensures (passed c.from_residual.result _ _ c.from_residual.ensures.1 refl) tt refl (λ l m u h. (_, refl))
 
-pub returns-in_err-a : goal.returns-in_err-a
-returns-in_err-a g c =
+pub returns-in_err-a-clause-exact : goal.returns-in_err-a-clause-exact
+returns-in_err-a-clause-exact g c =
     let v = view g.S.Store.memory c.args.self.now in
     let r = c.args.r in
     let s = c.args.s in
     let q = c.args.q in
     let ok = c.in_ok-admit.ensures in
     let no-a = c.in_err-a.ensures ∙ ap (taken Word.Divide s) (c.number.ensures ∙ ap number_held c.decoded.ensures.flags) in
-    record {
-      exact = by_refusing v (Call.divide r s q) (r ∷ s ∷ q ∷ []) nothing c.from_residual-in_err-a.result (wrong_kind Word.Divide s) ok
-          (passed c.from_residual-in_err-a.result _ _ c.from_residual-in_err-a.ensures.1 (number_fault Word.Divide s (held (holding v s)) c.in_err-a.field-0.0 no-a)) tt refl
-          (λ m a h l u t. ap (registers_then (r ∷ s ∷ q ∷ [])) (number_not h Word.Divide s ok.1.1.0 (divisor_then m r q) c.in_err-a.field-0.0 no-a));
-      kept = λ _. refl;
-    }
+    by_refusing v (Call.divide r s q) (r ∷ s ∷ q ∷ []) nothing c.from_residual-in_err-a.result (wrong_kind Word.Divide s) ok
+    (passed c.from_residual-in_err-a.result _ _ c.from_residual-in_err-a.ensures.1 (number_fault Word.Divide s (held (holding v s)) c.in_err-a.field-0.0 no-a)) tt refl
+    (λ m a h l u t. ap (registers_then (r ∷ s ∷ q ∷ [])) (number_not h Word.Divide s ok.1.1.0 (divisor_then m r q) c.in_err-a.field-0.0 no-a))
 
-pub returns-in_err-b : goal.returns-in_err-b
-returns-in_err-b g c =
+pub returns-in_err-b-clause-exact : goal.returns-in_err-b-clause-exact
+returns-in_err-b-clause-exact g c =
     let v = view g.S.Store.memory c.args.self.now in
     let r = c.args.r in
     let s = c.args.s in
@@ -50,17 +44,14 @@ returns-in_err-b g c =
     let ok = c.in_ok-admit.ensures in
     let no-b = c.in_err-b.ensures ∙ ap (taken Word.Divide q) (c.number-2.ensures ∙ ap number_held c.decoded-2.ensures.flags) in
     let is-a = c.in_ok-a.ensures ∙ ap (taken Word.Divide s) (c.number.ensures ∙ ap number_held c.decoded.ensures.flags) in
-    record {
-      exact = by_refusing v (Call.divide r s q) (r ∷ s ∷ q ∷ []) nothing c.from_residual-in_err-b.result (wrong_kind Word.Divide q) ok
-          (passed c.from_residual-in_err-b.result _ _ c.from_residual-in_err-b.ensures.1 (number_fault Word.Divide q (held (holding v q)) c.in_err-b.field-0.0 no-b)) tt refl
-          (λ m a h l u t. ap (registers_then (r ∷ s ∷ q ∷ []))
-          (number_is h Word.Divide s ok.1.1.0 (divisor_then m r q) x is-a
-          ∙ number_not h Word.Divide q ok.1.1.1.0 (quotient_then m r x) c.in_err-b.field-0.0 no-b));
-      kept = λ _. refl;
-    }
+    by_refusing v (Call.divide r s q) (r ∷ s ∷ q ∷ []) nothing c.from_residual-in_err-b.result (wrong_kind Word.Divide q) ok
+    (passed c.from_residual-in_err-b.result _ _ c.from_residual-in_err-b.ensures.1 (number_fault Word.Divide q (held (holding v q)) c.in_err-b.field-0.0 no-b)) tt refl
+    (λ m a h l u t. ap (registers_then (r ∷ s ∷ q ∷ []))
+    (number_is h Word.Divide s ok.1.1.0 (divisor_then m r q) x is-a
+    ∙ number_not h Word.Divide q ok.1.1.1.0 (quotient_then m r x) c.in_err-b.field-0.0 no-b))
 
-pub returns-in_err-z : goal.returns-in_err-z
-returns-in_err-z g c =
+pub returns-in_err-z-clause-exact : goal.returns-in_err-z-clause-exact
+returns-in_err-z-clause-exact g c =
     let v = view g.S.Store.memory c.args.self.now in
     let r = c.args.r in
     let s = c.args.s in
@@ -74,17 +65,14 @@ returns-in_err-z g c =
     let is-a = c.in_ok-a.ensures ∙ ap (taken Word.Divide s) (c.number.ensures ∙ ap number_held c.decoded.ensures.flags) in
     let is-b = c.in_ok-b.ensures ∙ ap (taken Word.Divide q) (c.number-2.ensures ∙ ap number_held c.decoded-2.ensures.flags) in
     let fault : WorkspaceFault = record { cause = Division; call = Word.Divide; register = r } in
-    record {
-      exact = by_refusing v (Call.divide r s q) (r ∷ s ∷ q ∷ []) nothing c.from_residual-in_err-z.result fault ok (passed c.from_residual-in_err-z.result _ fault c.from_residual-in_err-z.ensures.1 (err_same c.in_err-z.field-0.0 c.refusal.result (c.in_err-z.ensures.value ∙ ap (λ o. ok_or o c.refusal.result) c.in_err-z.ensures.ok_part) ∙ c.refusal.ensures)) tt refl
-          (λ m a h l u t. ap (registers_then (r ∷ s ∷ q ∷ []))
-          (number_is h Word.Divide s ok.1.1.0 (divisor_then m r q) x is-a
-          ∙ number_is h Word.Divide q ok.1.1.1.0 (quotient_then m r x) y is-b
-          ∙ cond-false (divides x y) _ _ none));
-      kept = λ _. refl;
-    }
+    by_refusing v (Call.divide r s q) (r ∷ s ∷ q ∷ []) nothing c.from_residual-in_err-z.result fault ok (passed c.from_residual-in_err-z.result _ fault c.from_residual-in_err-z.ensures.1 (err_same c.in_err-z.field-0.0 c.refusal.result (c.in_err-z.ensures.value ∙ ap (λ o. ok_or o c.refusal.result) c.in_err-z.ensures.ok_part) ∙ c.refusal.ensures)) tt refl
+    (λ m a h l u t. ap (registers_then (r ∷ s ∷ q ∷ []))
+    (number_is h Word.Divide s ok.1.1.0 (divisor_then m r q) x is-a
+    ∙ number_is h Word.Divide q ok.1.1.1.0 (quotient_then m r x) y is-b
+    ∙ cond-false (divides x y) _ _ none))
 
-pub returns : goal.returns
-returns g c =
+pub returns-clause-exact : goal.returns-clause-exact
+returns-clause-exact g c =
     let v = view g.S.Store.memory c.args.self.now in
     let r = c.args.r in
     let s = c.args.s in
@@ -100,16 +88,13 @@ returns g c =
     let d = c.number_value.ensures ∙ ap (λ (k : ℤ). desc k 0 6) (to_z-of_z w32 z fz) in
     let is-a = c.in_ok-a.ensures ∙ ap (taken Word.Divide s) (c.number.ensures ∙ ap number_held c.decoded.ensures.flags) in
     let is-b = c.in_ok-b.ensures ∙ ap (taken Word.Divide q) (c.number-2.ensures ∙ ap number_held c.decoded-2.ensures.flags) in
-    record {
-      exact = by_giving v _ (Call.divide r s q) (r ∷ s ∷ q ∷ []) [] [] ok tt refl
-          (λ m a h. (
-            put m r (Value.number z),
-            (λ l u t. ap (registers_then (r ∷ s ∷ q ∷ []))
-                (number_is h Word.Divide s ok.1.1.0 (divisor_then m r q) x is-a
-                ∙ number_is h Word.Divide q ok.1.1.1.0 (quotient_then m r x) y is-b
-                ∙ cond-true (divides x y) _ _ some.0
-                ∙ ap (λ (k : ℤ). give [] [] (put m r (Value.number k))) some.1)),
-            put_shown m a v r (Value.number z) c.number_value.result h (omega (arith, ok.1.0)) tt (subst (λ (k : Descriptor). Codes m a v.memory (Value.number z) k) (sym d) as_number),
-          ));
-      kept = search rules;
-    }
+    by_giving v _ (Call.divide r s q) (r ∷ s ∷ q ∷ []) [] [] ok tt refl
+    (λ m a h. (
+      put m r (Value.number z),
+      (λ l u t. ap (registers_then (r ∷ s ∷ q ∷ []))
+          (number_is h Word.Divide s ok.1.1.0 (divisor_then m r q) x is-a
+          ∙ number_is h Word.Divide q ok.1.1.1.0 (quotient_then m r x) y is-b
+          ∙ cond-true (divides x y) _ _ some.0
+          ∙ ap (λ (k : ℤ). give [] [] (put m r (Value.number k))) some.1)),
+      put_shown m a v r (Value.number z) c.number_value.result h (omega (arith, ok.1.0)) tt (subst (λ (k : Descriptor). Codes m a v.memory (Value.number z) k) (sym d) as_number),
+    ))

@@ -1,5 +1,5 @@
 use Rattle.std.proofs.Common.{[], length, take, vec_items, sym, ap, ◌∙◌, subst, subst₂, arith}
-use Rattle.std.proofs.lemmas.List.{map_push, map_more, take_all}
+use Rattle.std.proofs.lemmas.List.{map_push, map_more}
 use Rattle.rules.specs.declared.Request.{Request}
 use Rattle.rules.specs.Requests.{meant}
 use Rattle.workspace.specs.Shown.{view}
@@ -25,8 +25,3 @@ loop-call-preserved g c m a s h =
     subst₂ (λ cs l. Logged v m a cs l w) (sym one-call) (sym one_entry)
     (logged_more v m a (calls_of (take i c.args.calls.now)) (entries log) u (length c.loop-call.work) _ (entry x) w
     (omega (arith, h, c.loop-call.auto.work)) (c.loop-call.invariant m a s h) c.in_ok-entry.ensures)
-
-pub returns : goal.returns
-returns g c m a s h =
-    subst (λ l. Logged (view g.S.Store.memory c.args.self.now) m a (calls_of l) (entries (vec_items c.loop-call.log)) (view g.S.Store.memory c.loop-call.self))
-    (take_all c.loop-call.call-index c.args.calls.now c.loop-call-test.false) (c.loop-call.invariant m a s h)
