@@ -79,7 +79,7 @@ impl<'a> Plan<'a> {
     }
 
     // The steps from `start` on, `count` times in the place of once.
-    pub fn repeat(&mut self, start: usize, count: u32) -> Result<(), ReaderFault>
+    pub(crate) fn repeat(&mut self, start: usize, count: u32) -> Result<(), ReaderFault>
         requires { IfSome self.old (λ ss. start < length ss) }
         ensures { Repeats result self.old self.new start count }
     {
