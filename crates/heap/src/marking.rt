@@ -44,6 +44,7 @@ impl WorkList<'_> {
     }
 
     // Marks and queues what a value points at.
+    #[inline(always)]
     fn visit<S: Store>(&mut self, store: &mut S, d: Descriptor) -> Result<(), HeapFault>
         ensures visited { (m : Memory) (ts : List ℕ) → Queue m ts self.old.titles.now self.old.tail (S.memory store.old) → Valued m ts d →
             ((result ≡ Ok tt) × Visited m ts self.old.titles.now self.old.tail d self.new.titles.now self.new.tail (S.memory store.new)) }

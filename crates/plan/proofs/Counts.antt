@@ -1,5 +1,5 @@
 -- What some names take: how many of them a store holds, their cells, and how many fall into each bin.
-use Rattle.std.proofs.Common.{◌≡◌, ℕ, ◌+◌, ◌-◌, ◌*◌, ◌<◌, ◌≤◌, Bool, true, false, cond, ◌&&◌, leb, eqb, ◌≢◌, List, [], ◌∷◌, ◌++◌, length, get_or, set, take, replicate, None, Some, Option, MatchOption, sym, refl, ap, ◌∙◌, subst, inl, inr, div-le_self, arith, Bor}
+use Rattle.std.proofs.Common.{◌≡◌, ℕ, ◌+◌, ◌-◌, ◌*◌, ◌<◌, ◌≤◌, Bool, true, false, cond, ◌&&◌, leb, eqb, ◌≢◌, List, [], ◌∷◌, ◌++◌, length, get_or, set, take, replicate, None, Some, Option, MatchOption, sym, refl, ap, ◌∙◌, subst, inl, inr, div-le_self, arith}
 use Rattle.std.proofs.lemmas.List.{take_more, take_all, length-map, get_or-map, length-set, get_or-set_same, get_or-set_other, get_or_read, length-replicate, get_or-replicate}
 use Rattle.std.proofs.lemmas.List.Elements.{All-from_get_or}
 use Rattle.std.proofs.lemmas.List.Sums.{sum_by_push, sum_by-le, count_by-le-length}
@@ -9,7 +9,8 @@ use Rattle.std.specs.Ordering.{is_le, nat_cmp}
 use Rattle.cells.specs.Meaning.{Figures}
 use Rattle.rules.specs.Keys.{bin}
 use Rattle.rules.specs.Model.{Text, string_cells}
-use Rattle.plan.specs.Names.{texts}
+use Rattle.plan.specs.declared.names.Name.{Name}
+use Rattle.plan.specs.Names.{name_texts}
 use Rattle.plan.specs.Plans.{all_taken, holds, cells_in, name_cells, held, in_bin, all_cells}
 
 -- A number that a range from low to high has.
@@ -54,17 +55,17 @@ fit_small f t m e =
     let yes = answered f t (Some m) e in
     omega (arith, yes.1, cond-true {A = ℕ} (holds f t) (string_cells f.places (length t)) 0 yes.0, name_small f t)
 
--- What stands past the end of borrowed names.
-abbrev pub no_name : Bor Text
-no_name = record { ref_ptr = (0, 0); now = [] }
+-- What stands past the end of names.
+abbrev pub no_name : Name
+no_name = record { 0 = record { ref_ptr = (0, 0); now = [] } }
 
 -- One name more, and all of them.
-pub texts_more : (ns : List (Bor Text)) (i : ℕ) → i < length ns → take (i + 1) (texts ns) ≡ take i (texts ns) ++ (get_or ns i no_name).now ∷ []
+pub texts_more : (ns : List Name) (i : ℕ) → i < length ns → take (i + 1) (name_texts ns) ≡ take i (name_texts ns) ++ (get_or ns i no_name).0.now ∷ []
 texts_more ns i inside =
-    take_more (texts ns) i [] (rw length-map inside) ∙ ap (λ (t : Text). take i (texts ns) ++ t ∷ []) (get_or-map (λ s. s.now) ns i no_name [] inside)
+    take_more (name_texts ns) i [] (rw length-map inside) ∙ ap (λ (t : Text). take i (name_texts ns) ++ t ∷ []) (get_or-map (λ n. n.0.now) ns i no_name [] inside)
 
-pub texts_all : (ns : List (Bor Text)) (i : ℕ) → length ns ≤ i → take i (texts ns) ≡ texts ns
-texts_all ns i past = take_all i (texts ns) (rw length-map past)
+pub texts_all : (ns : List Name) (i : ℕ) → length ns ≤ i → take i (name_texts ns) ≡ name_texts ns
+texts_all ns i past = take_all i (name_texts ns) (rw length-map past)
 
 module _ {f : Figures} {bins : ℕ} {ts : List Text} {n taken : ℕ} {by_bin : List ℕ} (c : Counted f bins ts n taken by_bin) where
   -- How large the counts are.

@@ -1,11 +1,24 @@
 -- The names of an input, one to a line.
-use Rattle.std.specs.Prelude.{ℕ, Bool, true, false, cond, List, [], ◌∷◌, ◌++◌, map, fold, ◌==◌}
+use Rattle.std.specs.Prelude.{ℕ, ◌-◌, Bool, true, false, cond, List, [], ◌∷◌, ◌++◌, map, fold, length, take, drop, min, ◌==◌}
 use Rattle.std.specs.Borrow.{Bor}
+use Rattle.std.specs.Hash.{HashWrites, usize}
 use Rattle.rules.specs.Model.{Text, same_text}
+use Rattle.plan.specs.declared.names.Name.{Name}
 
 -- What some borrowed slices hold.
 abbrev pub texts : List (Bor (List ℕ)) → List Text
 texts ts = map (λ t. t.now) ts
+
+-- What the names of a set hold.
+abbrev pub name_texts : List Name → List Text
+name_texts ns = map (λ n. n.0.now) ns
+
+-- What is hashed of a name: its length, its first 4,096 bytes, and the last 4,096 of what follows these.
+abbrev pub behind : Text → Text
+behind t = drop (min (length t) 4096) t
+
+abbrev pub hashed : Text → HashWrites
+hashed t = usize (length t) ++ (take (min (length t) 4096) t ∷ drop (length (behind t) - 4096) (behind t) ∷ [])
 
 -- A line that is not empty is a name.
 abbrev pub kept : Text → List Text

@@ -1,10 +1,10 @@
 // What names take in an arena over a store.
 ghost use Rattle.std.specs.Prelude.{◌≡◌};
 ghost use Rattle.plan.specs.declared.tallies.PlanFault.TheVariants.{NoMemory};
-ghost use Rattle.plan.specs.Names.{texts, distinct};
+ghost use Rattle.plan.specs.Names.{texts, name_texts, distinct};
 ghost use Rattle.plan.specs.Plans.{all_taken, cells_in, Planned, Largest};
 
-use crate::names::distinct_of;
+use crate::names::{Name, distinct_of};
 use cells::Store;
 use rules::{LONGEST_TEXT, MOST_BINS, key_of, string_cells};
 use std::alloc::{AllocError, Global};
@@ -61,13 +61,8 @@ pub fn cells_in<S: Store>(store: &S, name: &[u8]) -> Option<u32>
 }
 
 // What names, each given once, take in an arena over the store.
-fn tallied<S: Store>(
-    heap: Global,
-    store: &S,
-    names: &[&[u8]],
-    bins: u32,
-) -> Result<Tally, PlanFault>
-    ensures { Planned (S.memory store.now).figures bins (texts names.now) result }
+fn tallied<S: Store>(heap: Global, store: &S, names: &[Name], bins: u32) -> Result<Tally, PlanFault>
+    ensures { Planned (S.memory store.now).figures bins (name_texts names.now) result }
 {
     if !(1..=MOST_BINS).contains(&bins) {
         return Err(PlanFault::BadBins);
@@ -78,7 +73,7 @@ fn tallied<S: Store>(
     let mut held = 0;
     let mut cells = 0;
     let mut by_bin = vec![in heap; 0; bins as usize]?;
-    for &name in names {
+    for &Name(name) in names {
         if let Some(taken) = cells_in(store, name) {
             held += 1;
             cells += taken;

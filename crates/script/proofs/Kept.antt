@@ -3,6 +3,7 @@ use Rattle.std.proofs.Common.{◌≡◌, ℕ, zero, suc, ◌+◌, ◌-◌, ◌<�
 use mathlib.Core.List.{map-append}
 use Rattle.std.proofs.lemmas.Bool.{cases_lt, le-leb, lt-leb, leb-true, leb-false, cond-true, cond-false, cond_both}
 use Rattle.std.proofs.lemmas.List.{length-map, take-map, drop-map, drop-append-le, take-append-le, take_all}
+use Rattle.std.specs.Option.{is_some, option_map}
 use Rattle.scan.specs.declared.types.Step.{Step}
 use Rattle.scan.specs.Words.{bind, Said, said_of}
 use Rattle.scan.specs.Forms.{bottom, first, copies}
@@ -125,6 +126,36 @@ module _ (h : Option (List Said)) (from : ℕ) (w : IfSome h (λ ss. from < leng
       (λ e. ap (λ (o : Option (List Said)). with_more o (part from (size h) o)) e ∙ sym (ap (λ (o : Option (List Said)). with_more o once) e ∙ none_more once) ∙ all)
       (λ e. ap (with_more now') e ∙ all)
       (part_more (copies n once))
+
+-- a repetition of no steps
+copies_none : {A : Type 0} (n : ℕ) → ◌≡◌ {A = List A} (copies n []) []
+copies_none zero = refl
+copies_none (suc n) = copies_none n
+
+part_none : (h : Option (List Said)) (from : ℕ) → size h ≤ from → part from (size h) h ≡ []
+part_none None from past = refl
+part_none (Some ss) from past = let none : length ss - from ≡ 0 = omega arith in ap (λ (n : ℕ). take n (drop from ss)) none
+
+pub none_repeated : (h : Option (List Said)) (from n : ℕ) → size h ≤ from → h ≡ with_more h (copies n (part from (size h) h))
+none_repeated h from n past = sym (ap (λ (ss : List Said). with_more h (copies n ss)) (part_none h from past) ∙ ap (with_more h) (copies_none n))
+
+pub some_repeated : (h : Option (List Said)) (from : ℕ) → from < size h → IfSome h (λ ss. from < length ss)
+some_repeated None from low = absurd (omega arith)
+some_repeated (Some ss) from low = low
+
+pub none_seen : {A B : Type 0} (f : A → B) (o : Option A) → is_some o ≡ false → option_map f o ≡ None
+none_seen f None e = refl
+none_seen f (Some x) e = cc
+
+-- what had too many has too many after further repetitions
+module _ (h : Option (List Said)) (once : List Said) (k : ℕ) (over : with_more h (copies k once) ≡ None) where
+  pub over_stays : (m : ℕ) → k ≤ m → with_more h (copies m once) ≡ None
+  over_stays zero le = let same : k ≡ 0 = omega arith in ap (λ (n : ℕ). with_more h (copies n once)) (sym same) ∙ over
+  over_stays (suc m) le =
+      ⊎_elim
+      (λ last. let same : k ≡ suc m = omega arith in ap (λ (n : ℕ). with_more h (copies n once)) (sym same) ∙ over)
+      (λ before. ap (with_more h) (sym (copies_more m once)) ∙ sym (more_more h (copies m once) once) ∙ ap (λ (o : Option (List Said)). with_more o once) (over_stays m before) ∙ none_more once)
+      (cases_lt m k)
 
 -- a repetition of what was added
 drop_front : (ss more : List Said) → drop (length ss) (ss ++ more) ≡ more

@@ -78,13 +78,18 @@ impl<'a> Plan<'a> {
         Ok(())
     }
 
-    // The steps from `start` on, `count` times in the place of once.
-    pub(crate) fn repeat(&mut self, start: usize, count: u32) -> Result<(), ReaderFault>
-        requires { IfSome self.old (λ ss. start < length ss) }
+    // The steps from `start` on, `count` times in the place of once, as long as there are not too many.
+    pub fn repeat(&mut self, start: usize, count: u32) -> Result<(), ReaderFault>
         ensures { Repeats result self.old self.new start count }
     {
         let end = self.len();
+        if start >= end {
+            return Ok(());
+        }
         for _ in 1..count {
+            if self.steps.is_none() {
+                return Ok(());
+            }
             self.add(start, end)?;
         }
         Ok(())

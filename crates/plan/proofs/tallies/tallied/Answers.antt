@@ -1,7 +1,7 @@
 use Rattle.std.proofs.Common.{ℕ, ◌+◌, ◌%◌, get_or, vec_items, sym, ap, arith}
 use Rattle.std.proofs.lemmas.List.{length-map, length-take}
 use Rattle.std.proofs.lemmas.Nat.{mod_below}
-use Rattle.plan.specs.Names.{texts}
+use Rattle.plan.specs.Names.{name_texts}
 use Rattle.plan.proofs.Counts.{bounded, counted_none, counted_unfit, counted_fit, few_cells, few_in_bin, counted_all, fit_small, no_name, texts_more, texts_all}
 use Rattle.plan.proofs.tallies.tallied.Goals as goal
 use Rattle.plan.proofs.tallies.tallied.Goals.{in-Some, in_default}
@@ -25,8 +25,8 @@ overflow_add-cells g c =
     omega (
       arith,
       few_cells c.loop-name.invariant,
-      fit_small (g.S.Store.memory c.args.store.now).figures (get_or c.args.names.now c.loop-name.name-index no_name).now c.in-Some.taken c.in-Some.ensures,
-      length-take c.loop-name.name-index (texts c.args.names.now),
+      fit_small (g.S.Store.memory c.args.store.now).figures (get_or c.args.names.now c.loop-name.name-index no_name).0.now c.in-Some.taken c.in-Some.ensures,
+      length-take c.loop-name.name-index (name_texts c.args.names.now),
     )
 
 pub overflow_add-index_mut : goal.overflow_add-index_mut
@@ -35,7 +35,7 @@ overflow_add-index_mut g c =
     omega (
       arith,
       few_in_bin c.loop-name.invariant (c.key_of.result % c.args.bins) (mod_below c.key_of.result c.args.bins bins.0) c.index_mut.result.now c.index_mut.ensures.value,
-      length-take c.loop-name.name-index (texts c.args.names.now),
+      length-take c.loop-name.name-index (name_texts c.args.names.now),
     )
 
 pub overflow_add-result : goal.overflow_add-result
@@ -44,15 +44,15 @@ overflow_add-result g c =
       arith,
       bounded 1 256 c.args.bins c.new.ensures.start c.new.ensures.end c.if-not-contains.ensures.cases,
       few_cells c.loop-name.invariant,
-      length-take c.loop-name.name-index (texts c.args.names.now),
-      length-map c.args.names.now (λ s. s.now),
+      length-take c.loop-name.name-index (name_texts c.args.names.now),
+      length-map c.args.names.now (λ n. n.0.now),
     )
 
 pub returns : goal.returns
 returns g c =
-    let e = length-map c.args.names.now (λ s. s.now) in
+    let e = length-map c.args.names.now (λ n. n.0.now) in
     let bins = bounded 1 256 c.args.bins c.new.ensures.start c.new.ensures.end c.if-not-contains.ensures.cases in
-    let all = counted_all c.loop-name.invariant (texts c.args.names.now) (texts_all c.args.names.now c.loop-name.name-index c.loop-name-test.false) in (
+    let all = counted_all c.loop-name.invariant (name_texts c.args.names.now) (texts_all c.args.names.now c.loop-name.name-index c.loop-name-test.false) in (
       bins.0,
       bins.1,
       omega arith,
