@@ -13,12 +13,12 @@ texts ts = map (λ t. t.now) ts
 abbrev pub name_texts : List Name → List Text
 name_texts ns = map (λ n. n.0.now) ns
 
--- What is hashed of a name: its length, its first 4,096 bytes, and the last 4,096 of what follows these.
+-- What is hashed of a name: its length, its first 1,048,576 bytes, and the last 1,048,576 of what follows these.
 abbrev pub behind : Text → Text
-behind t = drop (min (length t) 4096) t
+behind t = drop (min (length t) 1048576) t
 
 abbrev pub hashed : Text → HashWrites
-hashed t = usize (length t) ++ (take (min (length t) 4096) t ∷ drop (length (behind t) - 4096) (behind t) ∷ [])
+hashed t = usize (length t) ++ (take (min (length t) 1048576) t ∷ drop (length (behind t) - 1048576) (behind t) ∷ [])
 
 -- A line that is not empty is a name.
 abbrev pub kept : Text → List Text

@@ -33,9 +33,9 @@ pub fn names_of<'a>(heap: Global, input: &'a [u8]) -> Result<Vec<&'a [u8]>, Allo
 }
 
 // Of a name the set hashes so many bytes at either end.
-const HASHED_END: usize = 4_096;
+const HASHED_END: usize = 1_048_576;
 
-// A name in a set. It is hashed in three writes, and whole unless it is very long: then by its length and its ends.
+// A name in a set. It is hashed whole, unless it is longer than two such ends: then by its length and its ends.
 #[derive(Clone, Copy, PartialEq, Eq)]
 pub(crate) struct Name<'a>(pub(crate) &'a [u8]);
 
